@@ -1,0 +1,6 @@
+pub mod Choice
+pub mod Kinds
+pub mod State
+pub mod Event
+pub mod Record
+pub mod Effect

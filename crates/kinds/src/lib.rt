@@ -1,0 +1,33 @@
+// The kinds that the book speaks of: modes, task states, statuses and answers with their numbers; the state; events; records.
+mod answer;
+mod effect;
+mod event;
+pub mod flag;
+mod lpa_mode;
+mod mode;
+mod record;
+mod state;
+mod status;
+mod task;
+mod too_state;
+
+pub use answer::Answer;
+pub use effect::one_more;
+pub use event::Event;
+pub use event::EventParts;
+pub use event::FoundEvent;
+pub use lpa_mode::FoundLpaMode;
+pub use lpa_mode::LpaMode;
+pub use mode::FoundMode;
+pub use mode::Mode;
+pub use record::Reading;
+pub use record::Record;
+pub use record::RecordParts;
+pub use record::dwell_in_range;
+pub use state::State;
+pub use status::FoundStatus;
+pub use status::Status;
+pub use task::FoundTask;
+pub use task::Task;
+pub use too_state::FoundTooState;
+pub use too_state::TooState;
