@@ -1,0 +1,24 @@
+-- Events: 12 bytes, the code, a field that is zero, and the parameters a and b. A string of another length is no event.
+-- Assumes nothing.
+use Prim.Native.Nat.{ℕ}
+use mathlib.Core.List.{List, _++_}
+use lib.ListN.{length}
+use lib.Dec.{eqb}
+use Rattle.kinds.specs.Choice.{if_then_else_}
+use Rattle.kinds.specs.Event.{eventOf, partsOfEvent}
+use Rattle.kinds.specs.declared.event.Event.{Event}
+use Rattle.kinds.specs.declared.event.EventParts.{EventParts}
+use Rattle.kinds.specs.declared.event.FoundEvent.{FoundEvent}
+use Rattle.layout.specs.Bytes.{u16At, u32At, two, four}
+
+unfoldable pub eventPartsAt : List ℕ → EventParts
+eventPartsAt s = record { code = u16At s 0; zero = u16At s 2; a = u32At s 4; b = u32At s 8 }
+
+unfoldable pub readEvent : List ℕ → FoundEvent
+readEvent s = if eqb (length s) 12 then eventOf (eventPartsAt s) else FoundEvent.Unknown
+
+unfoldable pub eventPartsBytes : EventParts → List ℕ
+eventPartsBytes p = two (p .code) ++ two (p .zero) ++ four (p .a) ++ four (p .b)
+
+unfoldable pub eventBytes : Event → List ℕ
+eventBytes e = eventPartsBytes (partsOfEvent e)

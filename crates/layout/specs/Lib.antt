@@ -1,0 +1,6 @@
+pub mod Bytes
+pub mod BytesLaws
+pub mod Event
+pub mod Record
+pub mod Block
+pub mod BlockLaws
