@@ -4,3 +4,4 @@ pub mod State
 pub mod Event
 pub mod Record
 pub mod Effect
+pub mod ChoiceLaws
