@@ -5,3 +5,4 @@ pub mod Event
 pub mod Record
 pub mod Effect
 pub mod ChoiceLaws
+pub mod KindsLaws
