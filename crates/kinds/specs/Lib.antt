@@ -6,3 +6,4 @@ pub mod Record
 pub mod Effect
 pub mod ChoiceLaws
 pub mod KindsLaws
+pub mod EventLaws
