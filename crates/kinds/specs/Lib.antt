@@ -7,3 +7,4 @@ pub mod Effect
 pub mod ChoiceLaws
 pub mod KindsLaws
 pub mod EventLaws
+pub mod RecordLaws
