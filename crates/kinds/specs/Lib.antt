@@ -8,3 +8,4 @@ pub mod ChoiceLaws
 pub mod KindsLaws
 pub mod EventLaws
 pub mod RecordLaws
+pub mod EffectLaws
