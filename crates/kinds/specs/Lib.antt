@@ -4,3 +4,8 @@ pub mod State
 pub mod Event
 pub mod Record
 pub mod Effect
+pub mod ChoiceLaws
+pub mod KindsLaws
+pub mod EventLaws
+pub mod RecordLaws
+pub mod EffectLaws

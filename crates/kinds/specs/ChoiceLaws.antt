@@ -1,0 +1,97 @@
+-- How the definitions choose, laws: what holds of all that a table lists holds of what is chosen; a kind and its numbers say the
+-- same, once each of its numbers is read back. Nothing here is of the paper.
+-- Assumes nothing.
+use Prim.Native.Nat.{ℕ, _<_}
+use mathlib.Core.Bool.{Bool, true, false, _&&_, true≢false, false≢true}
+use mathlib.Core.List.{List, [], _∷_}
+use mathlib.Core.Path.{_≡_, refl, ap}
+use borrow.Author.Tests.{eqb-true, ltb-true}
+use lib.Dec.{eqb, ltb}
+use Rattle.kinds.specs.Choice.{if_then_else_, numbered, select}
+
+-- what holds of the first choice where it is taken, and of the second anyhow, holds of the one taken
+pub chosen : {A : Type 0} (P : A → Type 0) (test : Bool) (a b : A) → (test ≡ true → P a) → P b → P (if test then a else b)
+chosen P true a b p q = p refl
+chosen P false a b p q = q
+
+pub and-left : (a b : Bool) → a && b ≡ true → a ≡ true
+and-left true b e = refl
+and-left false b e = e
+
+pub and-right : (a b : Bool) → a && b ≡ true → b ≡ true
+and-right true b e = e
+and-right false b e = absurd (false≢true e)
+
+-- Tables of numbers ----------------------------------------------------------------------------------------------------------
+
+infixr 15 _and_
+abbrev pub _and_ : {A B : Type 0} → A → B → A × B
+a and b = (a, b)
+
+-- P holds of each row, of its number and what stands behind it
+abbrev pub EachRow : {A : Type 0} → (ℕ → A → Type 0) → List (ℕ × A) → Type 0
+EachRow P [] = Unit {0}
+EachRow P (row ∷ rows) = P (row .0) (row .1) × EachRow P rows
+
+-- what holds of each row and of `other` holds of what is selected
+pub select-holds : {A : Type 0} (P : ℕ → A → Type 0) (n : ℕ) (rows : List (ℕ × A)) (other : A)
+    → EachRow P rows → P n other → P n (select n rows other)
+select-holds P n [] other each rest = rest
+select-holds P n (row ∷ rows) other each rest =
+    chosen (P n) (eqb n (row .0)) (row .1) (select n rows other) (λ e. rw (eqb-true n (row .0) e) (each .0))
+    (select-holds P n rows other (each .1) rest)
+
+-- Kinds and their numbers ----------------------------------------------------------------------------------------------------
+
+-- what holds of each thing that has the number n, and of `unknown`, holds of what is found
+pub numbered-holds : {A B : Type 0} (P : B → Type 0) (number : A → ℕ) (found : A → B) (unknown : B) (xs : List A) (n : ℕ)
+    → ((x : A) → number x ≡ n → P (found x)) → P unknown → P (numbered number found unknown xs n)
+numbered-holds P number found unknown [] n each rest = rest
+numbered-holds P number found unknown (x ∷ xs) n each rest =
+    chosen P (eqb n (number x)) (found x) (numbered number found unknown xs n) (λ e. each x (rw (eqb-true n (number x) e)))
+    (numbered-holds P number found unknown xs n each rest)
+
+-- a test that each thing of a list passes
+abbrev pub every : {A : Type 0} → (A → Bool) → List A → Bool
+every test [] = true
+every test (x ∷ xs) = test x && every test xs
+
+-- the same of a test that all the listed pass
+pub numbered-every : {A B : Type 0} (P : B → Type 0) (test : A → Bool) (number : A → ℕ) (found : A → B) (unknown : B) (xs : List A) (n : ℕ)
+    → every test xs ≡ true → ((x : A) → test x ≡ true → P (found x)) → P unknown → P (numbered number found unknown xs n)
+numbered-every P test number found unknown [] n all each rest = rest
+numbered-every P test number found unknown (x ∷ xs) n all each rest =
+    chosen P (eqb n (number x)) (found x) (numbered number found unknown xs n) (λ _. each x (and-left (test x) (every test xs) all))
+    (numbered-every P test number found unknown xs n (and-right (test x) (every test xs) all) each rest)
+
+-- a kind of which each member is read back from its number
+pub record Kind {A B : Type 0} (number : A → ℕ) (found : A → B) (unknown : B) (xs : List A) : Type 0 where
+  pub same : (x y : A) → found x ≡ found y → x ≡ y
+  pub apart : (x : A) → unknown ≡ found x → true ≡ false
+  pub back : (x : A) → numbered number found unknown xs (number x) ≡ found x
+
+module _ {A B : Type 0} {number : A → ℕ} {found : A → B} {unknown : B} {xs : List A} (kind : Kind number found unknown xs) where
+  -- what is read from a number has that number
+  pub kind-number : (n : ℕ) (x : A) → numbered number found unknown xs n ≡ found x → number x ≡ n
+  kind-number n x =
+      numbered-holds (λ (b : B). b ≡ found x → number x ≡ n) number found unknown xs n
+      (λ y e same. rw (← kind .same y x same) e)
+      (λ none. absurd (true≢false (kind .apart x none)))
+
+  -- two of one number are one
+  pub kind-injective : (x y : A) → number x ≡ number y → x ≡ y
+  kind-injective x y e = kind .same x y (cc (kind .back x, kind .back y, ap (numbered number found unknown xs) e))
+
+  pub kind-is : (x y : A) → eqb (number x) (number y) ≡ true → x ≡ y
+  kind-is x y e = kind-injective x y (eqb-true (number x) (number y) e)
+
+  -- what all the listed pass, every member passes: the list leaves none out
+  pub kind-every : (test : A → Bool) → every test xs ≡ true → (x : A) → test x ≡ true
+  kind-every test all x =
+      numbered-every (λ (b : B). b ≡ found x → test x ≡ true) test number found unknown xs (number x) all
+      (λ y e same. rw (← kind .same y x same) e)
+      (λ none. absurd (true≢false (kind .apart x none)))
+      (kind .back x)
+
+  pub kind-below : (bound : ℕ) → every (λ x. ltb (number x) bound) xs ≡ true → (x : A) → number x < bound
+  kind-below bound all x = ltb-true (number x) bound (kind-every (λ y. ltb (number y) bound) all x)
