@@ -1,0 +1,17 @@
+-- `ruled`: the verdict and its STATUS.
+-- Assumes nothing.
+use borrow.Author.Needs.{needs}
+use Rattle.rules.proofs.Drafts.{closed}
+use Rattle.rules.specs.Draft.{rulingOf}
+use Rattle.rules.proofs.book.ruled.Statement.{statement}
+use Rattle.rules.proofs.book.ruled.Tie as tie
+
+pub ruled-spec : {M : Type 1} → statement M
+unfolding rulingOf
+ruled-spec =
+    tie.close
+    (tie.spec
+    (λ c κs. search needs)
+    (λ c κs. search needs)
+    (λ c κs. search needs)
+    (λ c. closed _ _ _ _ _ (c .before .before .heard .ensures) (c .before .one-more .ensures) (c .followed .ensures)))

@@ -1,0 +1,15 @@
+-- `hold_exit`: each way out is its case of the rule.
+-- Assumes nothing.
+use borrow.Author.Needs.{needs}
+use Rattle.rules.proofs.instrument.hold_exit.Statement.{statement}
+use Rattle.rules.proofs.instrument.hold_exit.Tie as tie
+
+pub hold-exit-spec : {M : Type 1} → statement M
+hold-exit-spec =
+    tie.close
+    (tie.spec
+    (λ c κs. search needs)
+    (λ c κs. search needs)
+    (λ c. simp (c .before .if1 .taken, ← c .before .before .in-mode .ensures) (c .refused .ensures))
+    (λ c κs. search needs)
+    (λ c. simp (c .before .if1 .left, ← c .before .before .in-mode .ensures) (c .records-1 .ensures)))

@@ -1,0 +1,15 @@
+-- `main_feed_on`: each way out is its case of the rule.
+-- Assumes nothing.
+use borrow.Author.Needs.{needs}
+use Rattle.rules.proofs.instrument.main_feed_on.Statement.{statement}
+use Rattle.rules.proofs.instrument.main_feed_on.Tie as tie
+
+pub main-feed-on-spec : {M : Type 1} → statement M
+main-feed-on-spec =
+    tie.close
+    (tie.spec
+    (λ c κs. search needs)
+    (λ c κs. search needs)
+    (λ c. simp (c .before .if1 .taken, ← c .before .before .in-mode .ensures) (c .refused .ensures))
+    (λ c κs. search needs)
+    (λ c. simp (c .before .if1 .left, ← c .before .before .in-mode .ensures) (c .records-2 .ensures)))

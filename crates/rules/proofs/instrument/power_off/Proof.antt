@@ -1,0 +1,18 @@
+-- `power_off`: each way out is its case of the rule.
+-- Assumes nothing.
+use borrow.Author.Needs.{needs}
+use borrow.Author.Tests.{ne-eqb}
+use Rattle.rules.proofs.instrument.power_off.Statement.{statement}
+use Rattle.rules.proofs.instrument.power_off.Tie as tie
+
+pub power-off-spec : {M : Type 1} → statement M
+power-off-spec =
+    tie.close
+    (tie.spec
+    (λ c κs. search needs)
+    (λ c κs. search needs)
+    (λ c. simp (c .before .if1 .taken, ← c .before .before .in-mode .ensures) (c .refused .ensures))
+    (λ c κs. search needs)
+    (λ c. simp (c .before .if2 .taken, c .before .before .if1 .left, ← c .before .before .before .in-mode .ensures) (c .refused2 .ensures))
+    (λ c κs. search needs)
+    (λ c. simp (ne-eqb _ _ (c .before .if2 .left), c .before .before .if1 .left, ← c .before .before .before .in-mode .ensures) (c .records-1 .ensures)))

@@ -1,0 +1,19 @@
+-- `power_on`: each way out is its case of the rule.
+-- Assumes nothing.
+use borrow.Author.Needs.{needs}
+use borrow.Author.Tests.{ne-eqb}
+use Rattle.rules.proofs.instrument.power_on.Statement.{statement}
+use Rattle.rules.proofs.instrument.power_on.Tie as tie
+
+pub power-on-spec : {M : Type 1} → statement M
+power-on-spec =
+    tie.close
+    (tie.spec
+    (λ c κs. search needs)
+    (λ c κs. search needs)
+    (λ c. simp (c .before .if1 .taken, ← c .before .before .in-mode .ensures) (c .refused .ensures))
+    (λ c κs. search needs)
+    (λ c. simp (c .before .if2 .taken, c .before .before .if1 .left, ← c .before .before .before .in-mode .ensures) (c .refused2 .ensures))
+    (λ c κs. search needs)
+    (λ c κs. search needs)
+    (λ c. simp (← c .before .configured .ensures, ne-eqb _ _ (c .before .before .if2 .left), c .before .before .before .if1 .left, ← c .before .before .before .before .in-mode .ensures) (c .records-2 .ensures)))

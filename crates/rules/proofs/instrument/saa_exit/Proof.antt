@@ -1,0 +1,15 @@
+-- `saa_exit`: each way out is its case of the rule.
+-- Assumes nothing.
+use borrow.Author.Needs.{needs}
+use Rattle.rules.proofs.instrument.saa_exit.Statement.{statement}
+use Rattle.rules.proofs.instrument.saa_exit.Tie as tie
+
+pub saa-exit-spec : {M : Type 1} → statement M
+saa-exit-spec =
+    tie.close
+    (tie.spec
+    (λ c κs. search needs)
+    (λ c κs. search needs)
+    (λ c. simp (c .before .if1 .taken, ← c .before .before .in-mode .ensures) (c .records-1 .ensures))
+    (λ c κs. search needs)
+    (λ c. simp (c .before .if1 .left, ← c .before .before .in-mode .ensures) (c .records-2 .ensures)))

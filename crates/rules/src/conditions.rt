@@ -1,0 +1,78 @@
+// What the rules ask of a state, and the sections of records that several of them share (Mode rules).
+ghost use mathlib.Core.Path.{_≡_};
+ghost use Rattle.rules.specs.Rule.{inMode, lciIs, lpaIs, tooIs, stopCalibration, stopPhysics, endToo};
+ghost use Rattle.rules.specs.Draft.{emits};
+use crate::draft::Draft;
+use crate::draft::emit;
+use kinds::Mode;
+use kinds::Record;
+use kinds::State;
+use kinds::Task;
+use kinds::TooState;
+
+pub(crate) fn in_mode(s: State, other: Mode) -> bool
+    ensures { λ r. ⌜ r ≡ inMode s other ⌝ }
+{
+    let mode = s.mode;
+    mode.is(other)
+}
+
+pub(crate) fn lci_is(s: State, other: Task) -> bool
+    ensures { λ r. ⌜ r ≡ lciIs s other ⌝ }
+{
+    let lci = s.lci;
+    lci.is(other)
+}
+
+pub(crate) fn lpa_is(s: State, other: Task) -> bool
+    ensures { λ r. ⌜ r ≡ lpaIs s other ⌝ }
+{
+    let lpa = s.lpa;
+    lpa.is(other)
+}
+
+pub(crate) fn too_is(s: State, other: TooState) -> bool
+    ensures { λ r. ⌜ r ≡ tooIs s other ⌝ }
+{
+    let too = s.too;
+    too.is(other)
+}
+
+pub(crate) fn stop_calibration(s: State, draft: Draft) -> Draft
+    ensures { λ r. ⌜ r ≡ emits draft (stopCalibration s) ⌝ }
+{
+    if lci_is(s, Task::Running) {
+        emit(
+            emit(draft, Record::CalAbort),
+            Record::LciState(Task::Stopping),
+        )
+    } else {
+        draft
+    }
+}
+
+pub(crate) fn stop_physics(s: State, draft: Draft) -> Draft
+    ensures { λ r. ⌜ r ≡ emits draft (stopPhysics s) ⌝ }
+{
+    if lpa_is(s, Task::Running) {
+        emit(
+            emit(draft, Record::LpaStop),
+            Record::LpaState(Task::Stopping),
+        )
+    } else {
+        draft
+    }
+}
+
+pub(crate) fn end_too(s: State, draft: Draft) -> Draft
+    ensures { λ r. ⌜ r ≡ emits draft (endToo s) ⌝ }
+{
+    if in_mode(s, Mode::Too) {
+        emit(
+            emit(draft, Record::TooTimerStop),
+            Record::TooState(TooState::None),
+        )
+    } else {
+        draft
+    }
+}
