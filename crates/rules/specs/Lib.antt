@@ -3,4 +3,4 @@
 pub mod Rule
 pub mod Rules
 pub mod Script
-pub mod Draft
+pub mod Ruling

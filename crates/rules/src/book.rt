@@ -2,16 +2,13 @@
 ghost use mathlib.Core.Path.{_≡_};
 ghost use Rattle.rules.specs.Rule.{decide};
 ghost use Rattle.rules.specs.Rules.{ruleOf, unheard, verdictOf};
-ghost use Rattle.rules.specs.Draft.{ruling, rulingOf};
+ghost use Rattle.rules.specs.Ruling.{ruledAs, rulingOf};
 use crate::calibration::cal_abort;
 use crate::calibration::cal_complete;
 use crate::calibration::cal_other;
 use crate::calibration::cal_start;
 use crate::calibration::cal_status;
 use crate::conditions::in_mode;
-use crate::draft::Ruling;
-use crate::draft::followed;
-use crate::draft::refused;
 use crate::instrument::hold_enter;
 use crate::instrument::hold_exit;
 use crate::instrument::load_shed;
@@ -30,6 +27,9 @@ use crate::physics::lpa_stop;
 use crate::too::too_abort;
 use crate::too::too_expired;
 use crate::too::too_start;
+use draft::Ruling;
+use draft::followed;
+use draft::records_0;
 use kinds::Event;
 use kinds::Mode;
 use kinds::Record;
@@ -53,10 +53,10 @@ pub fn ruled(state: State, event: Event) -> Ruling
 }
 
 fn heard(s: State, event: Event) -> Ruling
-    ensures { λ r. ⌜ r ≡ ruling s (verdictOf s event) ⌝ }
+    ensures { λ r. ⌜ r ≡ ruledAs s (verdictOf s event) ⌝ }
 {
     if unheard(s, event) {
-        return refused(s, Status::NotRun);
+        return records_0(s, Status::NotRun);
     }
     by_rule(s, event)
 }
@@ -69,7 +69,7 @@ fn unheard(s: State, event: Event) -> bool
 }
 
 fn by_rule(s: State, event: Event) -> Ruling
-    ensures { λ r. ⌜ r ≡ ruling s (decide (ruleOf s event)) ⌝ }
+    ensures { λ r. ⌜ r ≡ ruledAs s (decide (ruleOf s event)) ⌝ }
 {
     match event {
         Event::Started => started(s),

@@ -2,15 +2,15 @@
 ghost use mathlib.Core.Path.{_≡_};
 ghost use Rattle.rules.specs.Rule.{decide};
 ghost use Rattle.rules.specs.Rules.{calStart, calAbort, calOther, calStatus, calComplete};
-ghost use Rattle.rules.specs.Draft.{ruling};
+ghost use Rattle.rules.specs.Ruling.{ruledAs};
 use crate::conditions::in_mode;
 use crate::conditions::lci_is;
 use crate::conditions::lpa_is;
-use crate::draft::Ruling;
-use crate::draft::records_1;
-use crate::draft::records_2;
-use crate::draft::records_3;
-use crate::draft::refused;
+use draft::Ruling;
+use draft::records_0;
+use draft::records_1;
+use draft::records_2;
+use draft::records_3;
 use kinds::Mode;
 use kinds::Record;
 use kinds::State;
@@ -18,13 +18,13 @@ use kinds::Status;
 use kinds::Task;
 
 pub(crate) fn cal_start(s: State) -> Ruling
-    ensures { λ r. ⌜ r ≡ ruling s (decide (calStart s)) ⌝ }
+    ensures { λ r. ⌜ r ≡ ruledAs s (decide (calStart s)) ⌝ }
 {
     if !in_mode(s, Mode::Quiescent) {
-        return refused(s, Status::BadMode);
+        return records_0(s, Status::BadMode);
     }
     if lci_is(s, Task::Stopping) | lpa_is(s, Task::Stopping) {
-        return refused(s, Status::OthStop);
+        return records_0(s, Status::OthStop);
     }
     records_3(
         s,
@@ -36,10 +36,10 @@ pub(crate) fn cal_start(s: State) -> Ruling
 }
 
 pub(crate) fn cal_abort(s: State) -> Ruling
-    ensures { λ r. ⌜ r ≡ ruling s (decide (calAbort s)) ⌝ }
+    ensures { λ r. ⌜ r ≡ ruledAs s (decide (calAbort s)) ⌝ }
 {
     if in_mode(s, Mode::Terminal) | in_mode(s, Mode::Hold) {
-        return refused(s, Status::BadMode);
+        return records_0(s, Status::BadMode);
     }
     if lci_is(s, Task::Idle) {
         return records_2(
@@ -58,19 +58,19 @@ pub(crate) fn cal_abort(s: State) -> Ruling
 }
 
 pub(crate) fn cal_other(s: State) -> Ruling
-    ensures { λ r. ⌜ r ≡ ruling s (decide (calOther s)) ⌝ }
+    ensures { λ r. ⌜ r ≡ ruledAs s (decide (calOther s)) ⌝ }
 {
     if !in_mode(s, Mode::Calibration) {
-        return refused(s, Status::BadMode);
+        return records_0(s, Status::BadMode);
     }
     if lci_is(s, Task::Stopping) {
-        return refused(s, Status::OthStop);
+        return records_0(s, Status::OthStop);
     }
     records_1(s, Status::Fwd, Record::CalOther)
 }
 
 pub(crate) fn cal_status(s: State, good: bool) -> Ruling
-    ensures { λ r. ⌜ r ≡ ruling s (decide (calStatus s good)) ⌝ }
+    ensures { λ r. ⌜ r ≡ ruledAs s (decide (calStatus s good)) ⌝ }
 {
     if in_mode(s, Mode::Calibration) & s.lci_awaited & !good {
         return records_3(
@@ -85,7 +85,7 @@ pub(crate) fn cal_status(s: State, good: bool) -> Ruling
 }
 
 pub(crate) fn cal_complete(s: State) -> Ruling
-    ensures { λ r. ⌜ r ≡ ruling s (decide (calComplete s)) ⌝ }
+    ensures { λ r. ⌜ r ≡ ruledAs s (decide (calComplete s)) ⌝ }
 {
     if in_mode(s, Mode::Calibration) {
         return records_3(

@@ -1,9 +1,9 @@
 // What the rules ask of a state, and the sections of records that several of them share (Mode rules).
 ghost use mathlib.Core.Path.{_≡_};
 ghost use Rattle.rules.specs.Rule.{inMode, lciIs, lpaIs, tooIs, stopCalibration, stopPhysics, endToo};
-ghost use Rattle.rules.specs.Draft.{emits};
-use crate::draft::Draft;
-use crate::draft::emit;
+ghost use Rattle.draft.specs.Draft.{emits};
+use draft::Draft;
+use draft::emit;
 use kinds::Mode;
 use kinds::Record;
 use kinds::State;

@@ -16,21 +16,22 @@ ghost use Rattle.rules.specs.Rules.{
   shedding,
   noOp,
 };
-ghost use Rattle.rules.specs.Draft.{emits, ruling};
+ghost use Rattle.draft.specs.Draft.{emits};
+ghost use Rattle.rules.specs.Ruling.{ruledAs};
 use crate::conditions::end_too;
 use crate::conditions::in_mode;
 use crate::conditions::lpa_is;
 use crate::conditions::stop_calibration;
 use crate::conditions::stop_physics;
-use crate::draft::Draft;
-use crate::draft::Ruling;
-use crate::draft::blank;
-use crate::draft::emit;
-use crate::draft::records_1;
-use crate::draft::records_2;
-use crate::draft::records_4;
-use crate::draft::records_5;
-use crate::draft::refused;
+use draft::Draft;
+use draft::Ruling;
+use draft::blank;
+use draft::emit;
+use draft::records_0;
+use draft::records_1;
+use draft::records_2;
+use draft::records_4;
+use draft::records_5;
 use kinds::Mode;
 use kinds::Record;
 use kinds::State;
@@ -38,19 +39,19 @@ use kinds::Status;
 use kinds::Task;
 
 pub(crate) fn started(s: State) -> Ruling
-    ensures { λ r. ⌜ r ≡ ruling s (decide (started s)) ⌝ }
+    ensures { λ r. ⌜ r ≡ ruledAs s (decide (started s)) ⌝ }
 {
     if !in_mode(s, Mode::Boot) {
-        return refused(s, Status::BadMode);
+        return records_0(s, Status::BadMode);
     }
     records_1(s, Status::Success, Record::OpMode(Mode::Terminal))
 }
 
 pub(crate) fn main_feed_on(s: State) -> Ruling
-    ensures { λ r. ⌜ r ≡ ruling s (decide (mainFeedOn s)) ⌝ }
+    ensures { λ r. ⌜ r ≡ ruledAs s (decide (mainFeedOn s)) ⌝ }
 {
     if !in_mode(s, Mode::Terminal) {
-        return refused(s, Status::BadMode);
+        return records_0(s, Status::BadMode);
     }
     records_2(
         s,
@@ -71,35 +72,35 @@ fn configured(s: State) -> Record
 }
 
 pub(crate) fn power_on(s: State, mask: u32) -> Ruling
-    ensures { λ r. ⌜ r ≡ ruling s (decide (powerOn s mask (maskInRange mask))) ⌝ }
+    ensures { λ r. ⌜ r ≡ ruledAs s (decide (powerOn s mask (maskInRange mask))) ⌝ }
 {
     if !in_mode(s, Mode::Quiescent) {
-        return refused(s, Status::BadMode);
+        return records_0(s, Status::BadMode);
     }
     if mask == 0 {
-        return refused(s, Status::BadParam);
+        return records_0(s, Status::BadParam);
     }
     records_2(s, Status::Success, Record::PowerOn { mask }, configured(s))
 }
 
 pub(crate) fn power_off(s: State, mask: u32) -> Ruling
-    ensures { λ r. ⌜ r ≡ ruling s (decide (powerOff s mask (maskInRange mask))) ⌝ }
+    ensures { λ r. ⌜ r ≡ ruledAs s (decide (powerOff s mask (maskInRange mask))) ⌝ }
 {
     if !in_mode(s, Mode::Quiescent) {
-        return refused(s, Status::BadMode);
+        return records_0(s, Status::BadMode);
     }
     if mask == 0 {
-        return refused(s, Status::BadParam);
+        return records_0(s, Status::BadParam);
     }
     records_1(s, Status::Success, Record::PowerOff { mask })
 }
 
 pub(crate) fn hold_enter(s: State) -> Ruling
-    ensures { λ r. ⌜ r ≡ ruling s (decide (holdEnter s)) ⌝ }
+    ensures { λ r. ⌜ r ≡ ruledAs s (decide (holdEnter s)) ⌝ }
 {
     let quiet = in_mode(s, Mode::Quiescent) | in_mode(s, Mode::Calibration);
     if !(quiet | in_mode(s, Mode::Physics) | in_mode(s, Mode::Too)) {
-        return refused(s, Status::BadMode);
+        return records_0(s, Status::BadMode);
     }
     let stopped = stop_physics(s, stop_calibration(s, blank(s)));
     Ruling {
@@ -109,16 +110,16 @@ pub(crate) fn hold_enter(s: State) -> Ruling
 }
 
 pub(crate) fn hold_exit(s: State) -> Ruling
-    ensures { λ r. ⌜ r ≡ ruling s (decide (holdExit s)) ⌝ }
+    ensures { λ r. ⌜ r ≡ ruledAs s (decide (holdExit s)) ⌝ }
 {
     if !in_mode(s, Mode::Hold) {
-        return refused(s, Status::BadMode);
+        return records_0(s, Status::BadMode);
     }
     records_1(s, Status::Success, Record::OpMode(Mode::Quiescent))
 }
 
 pub(crate) fn saa_enter(s: State) -> Ruling
-    ensures { λ r. ⌜ r ≡ ruling s (decide (saaEnter s)) ⌝ }
+    ensures { λ r. ⌜ r ≡ ruledAs s (decide (saaEnter s)) ⌝ }
 {
     let entered = Record::SaaChange(true);
     let stopping = Record::LpaState(Task::Stopping);
@@ -146,7 +147,7 @@ pub(crate) fn saa_enter(s: State) -> Ruling
 }
 
 pub(crate) fn saa_exit(s: State) -> Ruling
-    ensures { λ r. ⌜ r ≡ ruling s (decide (saaExit s)) ⌝ }
+    ensures { λ r. ⌜ r ≡ ruledAs s (decide (saaExit s)) ⌝ }
 {
     if in_mode(s, Mode::Terminal) {
         return records_1(s, Status::Success, Record::SaaChange(false));
@@ -160,7 +161,7 @@ pub(crate) fn saa_exit(s: State) -> Ruling
 }
 
 pub(crate) fn load_shed(s: State) -> Ruling
-    ensures { λ r. ⌜ r ≡ ruling s (decide (loadShed s)) ⌝ }
+    ensures { λ r. ⌜ r ≡ ruledAs s (decide (loadShed s)) ⌝ }
 {
     let alert = Record::Alert {
         number: Record::ALERT_SHED,
@@ -187,10 +188,10 @@ fn shed(draft: Draft) -> Draft
 }
 
 pub(crate) fn no_op(s: State) -> Ruling
-    ensures { λ r. ⌜ r ≡ ruling s (decide (noOp s)) ⌝ }
+    ensures { λ r. ⌜ r ≡ ruledAs s (decide (noOp s)) ⌝ }
 {
     if in_mode(s, Mode::Hold) {
-        return refused(s, Status::BadMode);
+        return records_0(s, Status::BadMode);
     }
-    refused(s, Status::Success)
+    records_0(s, Status::Success)
 }

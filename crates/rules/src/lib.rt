@@ -2,7 +2,6 @@
 mod book;
 mod calibration;
 mod conditions;
-mod draft;
 mod instrument;
 mod physics;
 mod too;

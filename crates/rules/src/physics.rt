@@ -3,15 +3,15 @@ ghost use mathlib.Core.Path.{_≡_};
 ghost use Rattle.kinds.specs.declared.status.Status.{Status};
 ghost use Rattle.rules.specs.Rule.{decide, verdict};
 ghost use Rattle.rules.specs.Rules.{lpaStarting, lpaStart, lpaStop, lpaOther, lpaStatus, lpaComplete};
-ghost use Rattle.rules.specs.Draft.{ruling};
+ghost use Rattle.rules.specs.Ruling.{ruledAs};
 use crate::conditions::in_mode;
 use crate::conditions::lpa_is;
 use crate::conditions::too_is;
-use crate::draft::Ruling;
-use crate::draft::records_1;
-use crate::draft::records_2;
-use crate::draft::records_3;
-use crate::draft::refused;
+use draft::Ruling;
+use draft::records_0;
+use draft::records_1;
+use draft::records_2;
+use draft::records_3;
 use kinds::LpaMode;
 use kinds::Mode;
 use kinds::Record;
@@ -21,26 +21,26 @@ use kinds::Task;
 use kinds::TooState;
 
 pub(crate) fn lpa_start(s: State, run: u32) -> Ruling
-    ensures { λ r. ⌜ r ≡ ruling s (decide (lpaStart s run)) ⌝ }
+    ensures { λ r. ⌜ r ≡ ruledAs s (decide (lpaStart s run)) ⌝ }
 {
     if !(in_mode(s, Mode::Quiescent) | in_mode(s, Mode::Too)) {
-        return refused(s, Status::BadMode);
+        return records_0(s, Status::BadMode);
     }
     if s.saa {
-        return refused(s, Status::Saa);
+        return records_0(s, Status::Saa);
     }
     if lpa_is(s, Task::Running) {
-        return refused(s, Status::OthRun);
+        return records_0(s, Status::OthRun);
     }
     if lpa_is(s, Task::Stopping) {
-        return refused(s, Status::OthStop);
+        return records_0(s, Status::OthStop);
     }
     started(s, run)
 }
 
 // Where LPA can be started, how it is: for the observation or for the target of opportunity.
 fn started(s: State, run: u32) -> Ruling
-    ensures { λ r. ⌜ r ≡ ruling s (verdict Status.PktSent (lpaStarting s run)) ⌝ }
+    ensures { λ r. ⌜ r ≡ ruledAs s (verdict Status.PktSent (lpaStarting s run)) ⌝ }
 {
     let running = Record::LpaState(Task::Running);
     let mode = LpaMode::Too;
@@ -67,13 +67,13 @@ fn started(s: State, run: u32) -> Ruling
 }
 
 pub(crate) fn lpa_stop(s: State) -> Ruling
-    ensures { λ r. ⌜ r ≡ ruling s (decide (lpaStop s)) ⌝ }
+    ensures { λ r. ⌜ r ≡ ruledAs s (decide (lpaStop s)) ⌝ }
 {
     if !(in_mode(s, Mode::Physics) | in_mode(s, Mode::Too)) {
-        return refused(s, Status::BadMode);
+        return records_0(s, Status::BadMode);
     }
     if lpa_is(s, Task::Idle) {
-        return refused(s, Status::OthIdle);
+        return records_0(s, Status::OthIdle);
     }
     records_2(
         s,
@@ -84,22 +84,22 @@ pub(crate) fn lpa_stop(s: State) -> Ruling
 }
 
 pub(crate) fn lpa_other(s: State) -> Ruling
-    ensures { λ r. ⌜ r ≡ ruling s (decide (lpaOther s)) ⌝ }
+    ensures { λ r. ⌜ r ≡ ruledAs s (decide (lpaOther s)) ⌝ }
 {
     if !(in_mode(s, Mode::Physics) | in_mode(s, Mode::Too)) {
-        return refused(s, Status::BadMode);
+        return records_0(s, Status::BadMode);
     }
     if lpa_is(s, Task::Stopping) {
-        return refused(s, Status::OthStop);
+        return records_0(s, Status::OthStop);
     }
     if lpa_is(s, Task::Idle) {
-        return refused(s, Status::OthIdle);
+        return records_0(s, Status::OthIdle);
     }
     records_1(s, Status::Fwd, Record::LpaOther)
 }
 
 pub(crate) fn lpa_status(s: State, good: bool) -> Ruling
-    ensures { λ r. ⌜ r ≡ ruling s (decide (lpaStatus s good)) ⌝ }
+    ensures { λ r. ⌜ r ≡ ruledAs s (decide (lpaStatus s good)) ⌝ }
 {
     let report = Record::LpaStatus(good);
     let idle = Record::LpaState(Task::Idle);
@@ -120,7 +120,7 @@ pub(crate) fn lpa_status(s: State, good: bool) -> Ruling
 }
 
 pub(crate) fn lpa_complete(s: State) -> Ruling
-    ensures { λ r. ⌜ r ≡ ruling s (decide (lpaComplete s)) ⌝ }
+    ensures { λ r. ⌜ r ≡ ruledAs s (decide (lpaComplete s)) ⌝ }
 {
     let idle = Record::LpaState(Task::Idle);
     if in_mode(s, Mode::Physics) {

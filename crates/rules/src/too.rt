@@ -6,14 +6,14 @@ ghost use Rattle.kinds.specs.Record.{dwellInRange};
 ghost use Rattle.kinds.specs.declared.status.Status.{Status};
 ghost use Rattle.rules.specs.Rule.{decide, verdict};
 ghost use Rattle.rules.specs.Rules.{tooStarting, tooStart, startsPhysics, tooAbort, tooExpired, leaveToo};
-ghost use Rattle.rules.specs.Draft.{ruling};
+ghost use Rattle.rules.specs.Ruling.{ruledAs};
 use crate::conditions::in_mode;
 use crate::conditions::lpa_is;
-use crate::draft::Ruling;
-use crate::draft::records_3;
-use crate::draft::records_4;
-use crate::draft::records_5;
-use crate::draft::refused;
+use draft::Ruling;
+use draft::records_0;
+use draft::records_3;
+use draft::records_4;
+use draft::records_5;
 use kinds::LpaMode;
 use kinds::Mode;
 use kinds::Record;
@@ -23,24 +23,24 @@ use kinds::Task;
 use kinds::TooState;
 
 pub(crate) fn too_start(s: State, run: u32, dwell: u32) -> Ruling
-    ensures { λ r. ⌜ r ≡ ruling s (decide (tooStart s run dwell (dwellInRange dwell))) ⌝ }
+    ensures { λ r. ⌜ r ≡ ruledAs s (decide (tooStart s run dwell (dwellInRange dwell))) ⌝ }
 {
     let too = in_mode(s, Mode::Too);
     if !(too | in_mode(s, Mode::Quiescent) | in_mode(s, Mode::Physics)) {
-        return refused(s, Status::BadMode);
+        return records_0(s, Status::BadMode);
     }
     if too {
-        return refused(s, Status::TooAct);
+        return records_0(s, Status::TooAct);
     }
     if !kinds::dwell_in_range(dwell) {
-        return refused(s, Status::BadParam);
+        return records_0(s, Status::BadParam);
     }
     begun(s, run, dwell)
 }
 
 // What begins with the target's timer: it takes over a run, starts one, or waits.
 fn begun(s: State, run: u32, dwell: u32) -> Ruling
-    ensures { λ r. ⌜ r ≡ ruling s
+    ensures { λ r. ⌜ r ≡ ruledAs s
         (verdict (if startsPhysics s then Status.PktSent else Status.Success) (tooStarting s run dwell)) ⌝ }
 {
     let timer = Record::TooTimerStart { dwell };
@@ -72,25 +72,25 @@ fn begun(s: State, run: u32, dwell: u32) -> Ruling
 }
 
 pub(crate) fn too_abort(s: State) -> Ruling
-    ensures { λ r. ⌜ r ≡ ruling s (decide (tooAbort s)) ⌝ }
+    ensures { λ r. ⌜ r ≡ ruledAs s (decide (tooAbort s)) ⌝ }
 {
     if !in_mode(s, Mode::Too) {
-        return refused(s, Status::BadMode);
+        return records_0(s, Status::BadMode);
     }
     left(s)
 }
 
 pub(crate) fn too_expired(s: State, armed: u32) -> Ruling
-    ensures { λ r. ⌜ r ≡ ruling s (decide (tooExpired s (eqb armed (s .armed)))) ⌝ }
+    ensures { λ r. ⌜ r ≡ ruledAs s (decide (tooExpired s (eqb armed (s .armed)))) ⌝ }
 {
     if !(in_mode(s, Mode::Too) & (armed == s.armed)) {
-        return refused(s, Status::Stale);
+        return records_0(s, Status::Stale);
     }
     left(s)
 }
 
 fn left(s: State) -> Ruling
-    ensures { λ r. ⌜ r ≡ ruling s (verdict Status.Success (leaveToo s)) ⌝ }
+    ensures { λ r. ⌜ r ≡ ruledAs s (verdict Status.Success (leaveToo s)) ⌝ }
 {
     let stop = Record::TooTimerStop;
     let none = Record::TooState(TooState::None);

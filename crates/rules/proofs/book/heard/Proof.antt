@@ -12,6 +12,6 @@ heard-spec =
     (tie.spec
     (λ c κs. search needs)
     (λ c κs. search needs)
-    (λ c. simp (c .before .if1 .taken, ← c .before .before .unheard .ensures) (c .refused .ensures))
+    (λ c. simp (c .before .if1 .taken, ← c .before .before .unheard .ensures) (c .records-0 .ensures))
     (λ c κs. search needs)
     (λ c. simp (c .before .if1 .left, ← c .before .before .unheard .ensures) (c .by-rule .ensures)))

@@ -2,7 +2,7 @@
 -- Assumes nothing.
 use borrow.Author.Needs.{needs}
 use Rattle.rules.proofs.Drafts.{closed}
-use Rattle.rules.specs.Draft.{rulingOf}
+use Rattle.rules.specs.Ruling.{rulingOf}
 use Rattle.rules.proofs.book.ruled.Statement.{statement}
 use Rattle.rules.proofs.book.ruled.Tie as tie
 

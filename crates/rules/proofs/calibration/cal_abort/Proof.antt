@@ -11,7 +11,7 @@ cal-abort-spec =
     (λ c κs. search needs)
     (λ c κs. search needs)
     (λ c κs. search needs)
-    (λ c. simp (c .before .if1 .taken, ← c .before .before .in-mode2 .ensures, ← c .before .before .before .in-mode .ensures) (c .refused .ensures))
+    (λ c. simp (c .before .if1 .taken, ← c .before .before .in-mode2 .ensures, ← c .before .before .before .in-mode .ensures) (c .records-0 .ensures))
     (λ c κs. search needs)
     (λ c κs. search needs)
     (λ c. simp (c .before .if2 .taken, ← c .before .before .lci-is .ensures, c .before .before .before .if1 .left, ← c .before .before .before .before .in-mode2 .ensures, ← c .before .before .before .before .before .in-mode .ensures) (c .records-2 .ensures))

@@ -10,10 +10,10 @@ cal-start-spec =
     (tie.spec
     (λ c κs. search needs)
     (λ c κs. search needs)
-    (λ c. simp (c .before .if1 .taken, ← c .before .before .in-mode .ensures) (c .refused .ensures))
+    (λ c. simp (c .before .if1 .taken, ← c .before .before .in-mode .ensures) (c .records-0 .ensures))
     (λ c κs. search needs)
     (λ c κs. search needs)
     (λ c κs. search needs)
-    (λ c. simp (c .before .if2 .taken, ← c .before .before .lpa-is .ensures, ← c .before .before .before .lci-is .ensures, c .before .before .before .before .if1 .left, ← c .before .before .before .before .before .in-mode .ensures) (c .refused2 .ensures))
+    (λ c. simp (c .before .if2 .taken, ← c .before .before .lpa-is .ensures, ← c .before .before .before .lci-is .ensures, c .before .before .before .before .if1 .left, ← c .before .before .before .before .before .in-mode .ensures) (c .records-02 .ensures))
     (λ c κs. search needs)
     (λ c. simp (c .before .if2 .left, ← c .before .before .lpa-is .ensures, ← c .before .before .before .lci-is .ensures, c .before .before .before .before .if1 .left, ← c .before .before .before .before .before .in-mode .ensures) (c .records-3 .ensures)))

@@ -14,7 +14,7 @@ hold-enter-spec =
     (λ c κs. search needs)
     (λ c κs. search needs)
     (λ c κs. search needs)
-    (λ c. simp (c .before .if1 .taken, ← c .before .before .in-mode4 .ensures, ← c .before .before .before .in-mode3 .ensures, ← c .before .before .before .before .in-mode2 .ensures, ← c .before .before .before .before .before .in-mode .ensures) (c .refused .ensures))
+    (λ c. simp (c .before .if1 .taken, ← c .before .before .in-mode4 .ensures, ← c .before .before .before .in-mode3 .ensures, ← c .before .before .before .before .in-mode2 .ensures, ← c .before .before .before .before .before .in-mode .ensures) (c .records-0 .ensures))
     (λ c κs. search needs)
     (λ c κs. search needs)
     (λ c κs. search needs)

@@ -10,6 +10,6 @@ started-spec =
     (tie.spec
     (λ c κs. search needs)
     (λ c κs. search needs)
-    (λ c. simp (c .before .if1 .taken, ← c .before .before .in-mode .ensures) (c .refused .ensures))
+    (λ c. simp (c .before .if1 .taken, ← c .before .before .in-mode .ensures) (c .records-0 .ensures))
     (λ c κs. search needs)
     (λ c. simp (c .before .if1 .left, ← c .before .before .in-mode .ensures) (c .records-1 .ensures)))
