@@ -22,8 +22,9 @@ pub and-right : (a b : Bool) → a && b ≡ true → b ≡ true
 and-right true b e = e
 and-right false b e = absurd (false≢true e)
 
--- Tables of numbers ----------------------------------------------------------------------------------------------------------
+-- Tables of numbers --------------------------------------------------------------------------------------------------------
 
+-- the proofs of a table's rows, one after the other
 infixr 15 _and_
 abbrev pub _and_ : {A B : Type 0} → A → B → A × B
 a and b = (a, b)
@@ -41,7 +42,7 @@ select-holds P n (row ∷ rows) other each rest =
     chosen (P n) (eqb n (row .0)) (row .1) (select n rows other) (λ e. rw (eqb-true n (row .0) e) (each .0))
     (select-holds P n rows other (each .1) rest)
 
--- Kinds and their numbers ----------------------------------------------------------------------------------------------------
+-- Kinds and their numbers --------------------------------------------------------------------------------------------------
 
 -- what holds of each thing that has the number n, and of `unknown`, holds of what is found
 pub numbered-holds : {A B : Type 0} (P : B → Type 0) (number : A → ℕ) (found : A → B) (unknown : B) (xs : List A) (n : ℕ)
@@ -57,8 +58,8 @@ every test [] = true
 every test (x ∷ xs) = test x && every test xs
 
 -- the same of a test that all the listed pass
-pub numbered-every : {A B : Type 0} (P : B → Type 0) (test : A → Bool) (number : A → ℕ) (found : A → B) (unknown : B) (xs : List A) (n : ℕ)
-    → every test xs ≡ true → ((x : A) → test x ≡ true → P (found x)) → P unknown → P (numbered number found unknown xs n)
+pub numbered-every : {A B : Type 0} (P : B → Type 0) (test : A → Bool) (number : A → ℕ) (found : A → B) (unknown : B)
+    (xs : List A) (n : ℕ) → every test xs ≡ true → ((x : A) → test x ≡ true → P (found x)) → P unknown → P (numbered number found unknown xs n)
 numbered-every P test number found unknown [] n all each rest = rest
 numbered-every P test number found unknown (x ∷ xs) n all each rest =
     chosen P (eqb n (number x)) (found x) (numbered number found unknown xs n) (λ _. each x (and-left (test x) (every test xs) all))
@@ -82,6 +83,7 @@ module _ {A B : Type 0} {number : A → ℕ} {found : A → B} {unknown : B} {xs
   pub kind-injective : (x y : A) → number x ≡ number y → x ≡ y
   kind-injective x y e = kind .same x y (cc (kind .back x, kind .back y, ap (numbered number found unknown xs) e))
 
+  -- the test that compares the numbers tells sameness
   pub kind-is : (x y : A) → eqb (number x) (number y) ≡ true → x ≡ y
   kind-is x y e = kind-injective x y (eqb-true (number x) (number y) e)
 
@@ -93,5 +95,6 @@ module _ {A B : Type 0} {number : A → ℕ} {found : A → B} {unknown : B} {xs
       (λ none. absurd (true≢false (kind .apart x none)))
       (kind .back x)
 
+  -- a bound of the listed numbers, computed, bounds them all
   pub kind-below : (bound : ℕ) → every (λ x. ltb (number x) bound) xs ≡ true → (x : A) → number x < bound
   kind-below bound all x = ltb-true (number x) bound (kind-every (λ y. ltb (number y) bound) all x)

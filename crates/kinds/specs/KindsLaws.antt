@@ -3,12 +3,16 @@
 -- Assumes nothing.
 use Prim.Native.Nat.{ℕ, _≤_, _<_, _^_}
 use mathlib.Core.Bool.{Bool, true, false}
-use mathlib.Core.List.{List, [], _∷_}
+use mathlib.Core.List.{[], _∷_}
 use mathlib.Core.Path.{_≡_, refl, ap}
 use native.Mathlib.Omega.{arith}
 use Rattle.kinds.specs.Choice.{numbered}
-use Rattle.kinds.specs.ChoiceLaws.{Kind, every, kind-number, kind-injective, kind-is, kind-every, kind-below}
-use Rattle.kinds.specs.Kinds.{modeNumber, modes, modeOf, modeIs, taskNumber, tasks, taskOf, taskIs, lpaModeNumber, lpaModes, lpaModeOf, lpaModeIs, tooStateNumber, tooStates, tooStateOf, tooStateIs, flagNumber, flags, flagOf, statusNumber, statuses, statusOf, answerNumber}
+use Rattle.kinds.specs.ChoiceLaws.{Kind, every, kind-number, kind-is, kind-every, kind-below}
+use Rattle.kinds.specs.Kinds.{modeNumber, modes, modeOf, modeIs}
+use Rattle.kinds.specs.Kinds.{taskNumber, tasks, taskOf, taskIs}
+use Rattle.kinds.specs.Kinds.{lpaModeNumber, lpaModes, lpaModeOf, lpaModeIs}
+use Rattle.kinds.specs.Kinds.{tooStateNumber, tooStates, tooStateOf, tooStateIs}
+use Rattle.kinds.specs.Kinds.{flagNumber, flags, flagOf, statusNumber, statuses, statusOf, answerNumber}
 use Rattle.kinds.specs.declared.mode.Mode.{Mode}
 use Rattle.kinds.specs.declared.mode.FoundMode.{FoundMode}
 use Rattle.kinds.specs.declared.task.Task.{Task}
