@@ -1,6 +1,7 @@
 pub mod Bytes
 pub mod BytesLaws
 pub mod Event
+pub mod EventLaws
 pub mod Record
 pub mod Block
 pub mod BlockLaws
