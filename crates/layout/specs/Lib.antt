@@ -3,5 +3,6 @@ pub mod BytesLaws
 pub mod Event
 pub mod EventLaws
 pub mod Record
+pub mod RecordLaws
 pub mod Block
 pub mod BlockLaws
