@@ -1,13 +1,11 @@
 -- Laws of events as bytes: an event is read back from its 12 bytes, and what a string of bytes says of an event fits 32 bits.
 -- Assumes nothing.
 use Prim.Native.Nat.{ℕ, _^_, _<_}
-use mathlib.Core.Bool.{true, false}
-use mathlib.Core.List.{List, _++_}
-use mathlib.Core.Path.{_≡_, refl, _∙_}
+use mathlib.Core.List.{List}
+use mathlib.Core.Path.{_≡_}
 use native.Mathlib.Omega.{arith}
 use lib.ListN.{length, length-append}
 use lib.Dec.{eqb, lit<}
-use Rattle.kinds.specs.Choice.{if_then_else_}
 use Rattle.kinds.specs.ChoiceLaws.{chosen}
 use Rattle.kinds.specs.Event.{eventOf, partsOfEvent}
 use Rattle.kinds.specs.EventLaws.{event-back, event-parts, event-code-fits, event-zero}
