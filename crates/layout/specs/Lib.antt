@@ -6,3 +6,4 @@ pub mod Record
 pub mod RecordLaws
 pub mod Block
 pub mod BlockLaws
+pub mod Zeros
