@@ -1,0 +1,3 @@
+-- The specifications of `manager`: the log, and what a step and a flush leave. Assumes nothing.
+pub mod Log
+pub mod Manager
