@@ -1,4 +1,3 @@
-pub mod Ends
 pub mod Copies
 pub mod Stored
 pub mod ZeroLaws
