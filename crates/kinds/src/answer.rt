@@ -4,7 +4,7 @@ ghost use Rattle.kinds.specs.Kinds.{answerNumber};
 use crate::Status;
 
 pub enum Answer {
-    // What was asked was done and is in the log, with this status.
+    // What was asked is in the log, with this status: done, or refused by the rules. A flush answers Success.
     Taken(Status),
     Full,
     BadState,
