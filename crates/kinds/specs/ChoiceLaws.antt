@@ -42,7 +42,21 @@ select-holds P n (row ∷ rows) other each rest =
     chosen (P n) (eqb n (row .0)) (row .1) (select n rows other) (λ e. rw (eqb-true n (row .0) e) (each .0))
     (select-holds P n rows other (each .1) rest)
 
--- Kinds and their numbers --------------------------------------------------------------------------------------------------
+-- a test that each thing of a list passes
+abbrev pub every : {A : Type 0} → (A → Bool) → List A → Bool
+every test [] = true
+every test (x ∷ xs) = test x && every test xs
+
+-- what is selected, unless it is `other`, has a number that passes what all the numbers of the table pass
+pub select-listed : {A : Type 0} (test : ℕ → Bool) (n : ℕ) (rows : List (ℕ × A)) (other found : A)
+    → every (λ row. test (row .0)) rows ≡ true → (other ≡ found → ⊥) → select n rows other ≡ found → test n ≡ true
+select-listed test n [] other found all none = λ e. absurd (none e)
+select-listed {A} test n (row ∷ rows) other found all none =
+    chosen (λ (a : A). a ≡ found → test n ≡ true) (eqb n (row .0)) (row .1) (select n rows other)
+    (λ t _. rw (eqb-true n (row .0) t) (and-left (test (row .0)) (every (λ r. test (r .0)) rows) all))
+    (select-listed test n rows other found (and-right (test (row .0)) (every (λ r. test (r .0)) rows) all) none)
+
+-- Kinds and their numbers ----------------------------------------------------------------------------------------------------
 
 -- what holds of each thing that has the number n, and of `unknown`, holds of what is found
 pub numbered-holds : {A B : Type 0} (P : B → Type 0) (number : A → ℕ) (found : A → B) (unknown : B) (xs : List A) (n : ℕ)
@@ -51,11 +65,6 @@ numbered-holds P number found unknown [] n each rest = rest
 numbered-holds P number found unknown (x ∷ xs) n each rest =
     chosen P (eqb n (number x)) (found x) (numbered number found unknown xs n) (λ e. each x (rw (eqb-true n (number x) e)))
     (numbered-holds P number found unknown xs n each rest)
-
--- a test that each thing of a list passes
-abbrev pub every : {A : Type 0} → (A → Bool) → List A → Bool
-every test [] = true
-every test (x ∷ xs) = test x && every test xs
 
 -- the same of a test that all the listed pass
 pub numbered-every : {A B : Type 0} (P : B → Type 0) (test : A → Bool) (number : A → ℕ) (found : A → B) (unknown : B)

@@ -1,12 +1,14 @@
 -- Events, laws: an event's four numbers are read back as that event, and four numbers that are read as an event are its numbers.
+-- The code fits 16 bits, and the zero field is zero.
 -- Assumes nothing.
-use Prim.Native.Nat.{ℕ}
+use Prim.Native.Nat.{ℕ, _^_, _<_}
 use mathlib.Core.Bool.{Bool, true, false}
 use mathlib.Core.Path.{_≡_, refl}
-use borrow.Author.Tests.{eqb-true}
-use lib.Dec.{eqb}
+use native.Mathlib.Omega.{arith}
+use borrow.Author.Tests.{eqb-true, ltb-true}
+use lib.Dec.{eqb, ltb}
 use Rattle.kinds.specs.Choice.{if_then_else_, select}
-use Rattle.kinds.specs.ChoiceLaws.{chosen, _and_, EachRow, select-holds, numbered-holds}
+use Rattle.kinds.specs.ChoiceLaws.{chosen, _and_, EachRow, select-holds, select-listed, numbered-holds}
 use Rattle.kinds.specs.Kinds.{flagNumber, flags, flagOf}
 use Rattle.kinds.specs.Event.{eventParts, partsOfEvent, bareEvent, singleEvent, reportEvent, eventRows, eventOf}
 use Rattle.kinds.specs.declared.flag.FoundFlag.{FoundFlag}
@@ -111,3 +113,25 @@ found-parts p =
 
 pub event-parts : (p : EventParts) (e : Event) → eventOf p ≡ FoundEvent.Found e → partsOfEvent e ≡ p
 event-parts p e found = rw found at (found-parts p)
+
+-- what the code and the zero field of an event can be
+unknown-found : (e : Event) → FoundEvent.Unknown ≡ FoundEvent.Found e → ⊥
+unknown-found e p = let z : _≡_ {A = ℕ} 0 1 = cc in omega arith
+
+found-fits : (p : EventParts) (e : Event) → eventOf p ≡ FoundEvent.Found e → (p .code < 2 ^ 16) × (p .zero ≡ 0)
+unfolding eventOf
+found-fits p e =
+    chosen (λ (f : FoundEvent). f ≡ FoundEvent.Found e → (p .code < 2 ^ 16) × (p .zero ≡ 0)) (eqb (p .zero) 0)
+    (select (p .code) (eventRows (p .a) (p .b)) FoundEvent.Unknown) FoundEvent.Unknown
+    (λ t found. (
+      ltb-true (p .code) (2 ^ 16)
+          (select-listed (λ n. ltb n (2 ^ 16)) (p .code) (eventRows (p .a) (p .b)) FoundEvent.Unknown (FoundEvent.Found e) refl (unknown-found e) found),
+      eqb-true (p .zero) 0 t,
+    ))
+    (λ none. absurd (unknown-found e none))
+
+pub event-code-fits : (e : Event) → partsOfEvent e .code < 2 ^ 16
+event-code-fits e = found-fits (partsOfEvent e) e (event-back e) .0
+
+pub event-zero : (e : Event) → partsOfEvent e .zero ≡ 0
+event-zero e = found-fits (partsOfEvent e) e (event-back e) .1

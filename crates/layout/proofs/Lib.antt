@@ -1,3 +1,4 @@
 pub mod Ends
 pub mod Copies
 pub mod Stored
+pub mod ZeroLaws

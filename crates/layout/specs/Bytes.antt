@@ -1,8 +1,12 @@
 -- Numbers of two and four bytes, most significant byte first: read at a place of a string, and written.
 -- Past the end of a string stand zeros. Assumes nothing.
-use Prim.Native.Nat.{ℕ, _+_, _*_, _/_, _%_}
+use Prim.Native.Nat.{ℕ, _+_, _*_, _/_, _%_, _<_}
 use mathlib.Core.List.{List, [], _∷_}
 use lib.ListN.{getD}
+
+-- a string of bytes: what stands at each place is below 256, and so are the zeros past the end
+abbrev pub AreBytes : List ℕ → Type 0
+AreBytes s = (i : ℕ) → getD s i 0 < 256
 
 abbrev pub join2 : ℕ → ℕ → ℕ
 join2 a b = a * 256 + b

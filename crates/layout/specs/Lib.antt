@@ -1,6 +1,9 @@
 pub mod Bytes
 pub mod BytesLaws
 pub mod Event
+pub mod EventLaws
 pub mod Record
+pub mod RecordLaws
 pub mod Block
 pub mod BlockLaws
+pub mod Zeros

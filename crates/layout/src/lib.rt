@@ -3,6 +3,7 @@ mod block;
 mod bytes;
 mod event;
 mod record;
+mod zeros;
 
 pub use block::Head;
 pub use block::intact;
@@ -13,3 +14,4 @@ pub use event::event_bytes;
 pub use event::read_event;
 pub use record::read_record;
 pub use record::record_bytes;
+pub use zeros::zeros_between;

@@ -1,0 +1,345 @@
+// Runs `layout` on a block, events and records that are written out by hand, byte for byte. A line for each comparison: what was
+// found, and `same` or DIFFERENT with what was expected.
+ghost use Prim.Native.Nat.{_≤_};
+ghost use lib.ListN.{length};
+use kinds::Event;
+use kinds::FoundEvent;
+use kinds::Reading;
+use kinds::Record;
+use kinds::Status;
+use layout::Head;
+use libc::STDOUT_FILENO;
+
+fn main() {
+    writing();
+    reading();
+    heads();
+    events();
+    events_refused();
+    records();
+    records_of_timers();
+}
+
+// Blocks ---------------------------------------------------------------------------------------------------------------------
+
+// Log 0x01020304, block 5, two records, 7 events before: TOOTIMER 1, 86400 and STATUS 1, 8. The check is worked out bit by bit.
+fn by_hand(used: u8) -> [u8; 512] {
+    let mut block = [0u8; 512];
+    block[0] = 0x01;
+    block[1] = 0x02;
+    block[2] = 0x03;
+    block[3] = 0x04;
+    block[7] = 0x05;
+    block[9] = used;
+    block[13] = 0x07;
+    block[15] = 0x07;
+    block[17] = 0x01;
+    block[19] = 0x01;
+    block[20] = 0x51;
+    block[21] = 0x80;
+    block[23] = 0x1D;
+    block[25] = 0x01;
+    block[29] = 0x08;
+    let check = bit_by_bit(&block[..510]);
+    block[510] = (check / 256) as u8;
+    block[511] = (check % 256) as u8;
+    block
+}
+
+fn head() -> Head {
+    Head {
+        number: 0x01020304,
+        block: 5,
+        used: 2,
+        before: 7,
+    }
+}
+
+// The two records, as `layout` writes them, and zeros.
+fn area() -> [u8; 496] {
+    let timer = layout::record_bytes(Record::TooTimerStart { dwell: 86400 });
+    let status = layout::record_bytes(Record::Status {
+        status: Status::PktSent,
+        event: 8,
+    });
+    let mut area = [0u8; 496];
+    area[0] = timer[0];
+    area[1] = timer[1];
+    area[2] = timer[2];
+    area[3] = timer[3];
+    area[4] = timer[4];
+    area[5] = timer[5];
+    area[6] = timer[6];
+    area[7] = timer[7];
+    area[8] = status[0];
+    area[9] = status[1];
+    area[10] = status[2];
+    area[11] = status[3];
+    area[12] = status[4];
+    area[13] = status[5];
+    area[14] = status[6];
+    area[15] = status[7];
+    area
+}
+
+fn writing() {
+    let expected = by_hand(2);
+    let area = area();
+    let mut lent = [0xAAu8; 512];
+    let answer = layout::write_block(head(), &area, &mut lent);
+    yes_or_no(b"512 bytes lent, written", true, answer);
+    yes_or_no(
+        b"the block, as by hand",
+        true,
+        check::same(&lent, &expected),
+    );
+    let mut short = [0xAAu8; 511];
+    let untouched = [0xAAu8; 511];
+    let refused = layout::write_block(head(), &area, &mut short);
+    yes_or_no(b"511 bytes lent, written", false, refused);
+    yes_or_no(
+        b"511 bytes lent, as before",
+        true,
+        check::same(&short, &untouched),
+    );
+}
+
+// A block is read as intact, with its records' length, or not.
+fn reading() {
+    let block = by_hand(2);
+    number(b"check, high byte", 0x12, block[510] as u64);
+    number(b"check, low byte", 0x66, block[511] as u64);
+    read(b"used 2", &block, true, 16);
+    read_cut(&block);
+    let mut flipped = by_hand(2);
+    flipped[300] = 0x10;
+    read(b"a bit flipped", &flipped, false, 0);
+    let none = by_hand(0);
+    read(b"used 0", &none, true, 0);
+    let all = by_hand(62);
+    read(b"used 62", &all, true, 496);
+    let more = by_hand(63);
+    read(b"used 63", &more, true, 0);
+}
+
+fn read(name: &[u8], block: &[u8], intact: bool, length: u64) {
+    io::write_all(STDOUT_FILENO, name);
+    yes_or_no(b", intact", intact, layout::intact(block));
+    io::write_all(STDOUT_FILENO, name);
+    number(
+        b", length of the records",
+        length,
+        layout::records(block).len() as u64,
+    );
+}
+
+// A block without its last byte is no block.
+fn read_cut(block: &[u8])
+    requires { ⌜ 511 ≤ length (now block) ⌝ }
+{
+    read(b"511 bytes", &block[..511], false, 0);
+}
+
+// The head of a block, and of a string that is too short for one.
+fn heads() {
+    let block = by_hand(2);
+    let whole = layout::read_head(&block);
+    number(b"log number", 16909060, whole.number as u64);
+    number(b"block number", 5, whole.block as u64);
+    number(b"records used", 2, whole.used as u64);
+    number(b"count before", 7, whole.before as u64);
+    let short = layout::read_head(&[0xFF; 13]);
+    number(b"13 bytes, log number", 0, short.number as u64);
+    number(b"13 bytes, count before", 0, short.before as u64);
+}
+
+// Events ---------------------------------------------------------------------------------------------------------------------
+
+// Events, by their code.
+fn events() {
+    event(
+        b"TOOSTART 7, 600",
+        &[0, 17, 0, 0, 0, 0, 0, 7, 0, 0, 2, 0x58],
+        17,
+    );
+    event(b"STARTED", &[0, 1, 0, 0, 0, 0, 0, 0, 0, 0, 0, 0], 1);
+    event(b"CALSTATUS 1", &[0, 20, 0, 0, 0, 0, 0, 1, 0, 0, 0, 0], 20);
+    event(b"LPACOMPLETE", &[0, 23, 0, 0, 0, 0, 0, 0, 0, 0, 0, 0], 23);
+    let bytes = layout::event_bytes(Event::TooStart { run: 7, dwell: 600 });
+    let expected = [0, 17, 0, 0, 0, 0, 0, 7, 0, 0, 2, 0x58];
+    yes_or_no(
+        b"TOOSTART 7, 600, bytes as by hand",
+        true,
+        check::same(&bytes, &expected),
+    );
+}
+
+// Strings that are no event, one for each reason.
+fn events_refused() {
+    event(b"NOOP of 11 bytes", &[0, 10, 0, 0, 0, 0, 0, 0, 0, 0, 0], 0);
+    event(
+        b"NOOP of 13 bytes",
+        &[0, 10, 0, 0, 0, 0, 0, 0, 0, 0, 0, 0, 0],
+        0,
+    );
+    event(b"code 0", &[0, 0, 0, 0, 0, 0, 0, 0, 0, 0, 0, 0], 0);
+    event(b"code 24", &[0, 24, 0, 0, 0, 0, 0, 0, 0, 0, 0, 0], 0);
+    event(
+        b"NOOP little-endian",
+        &[10, 0, 0, 0, 0, 0, 0, 0, 0, 0, 0, 0],
+        0,
+    );
+    event(
+        b"NOOP, zero field 1",
+        &[0, 10, 0, 1, 0, 0, 0, 0, 0, 0, 0, 0],
+        0,
+    );
+    event(b"NOOP, a 1", &[0, 10, 0, 0, 0, 0, 0, 1, 0, 0, 0, 0], 0);
+    event(b"LPASTART, b 1", &[0, 14, 0, 0, 0, 0, 0, 8, 0, 0, 0, 1], 0);
+    event(b"CALSTATUS 2", &[0, 20, 0, 0, 0, 0, 0, 2, 0, 0, 0, 0], 0);
+    event(b"LPASTATUS 2", &[0, 22, 0, 0, 0, 0, 0, 2, 0, 0, 0, 0], 0);
+}
+
+fn event(name: &[u8], string: &[u8], code: u64) {
+    number(name, code, event_code(string));
+}
+
+// The code of a string's event, and 0 where it is none.
+fn event_code(string: &[u8]) -> u64 {
+    match layout::read_event(string) {
+        FoundEvent::Found(event) => event.taken_apart().code as u64,
+        FoundEvent::Unknown => 0,
+    }
+}
+
+// Records --------------------------------------------------------------------------------------------------------------------
+
+const RIGHT: u8 = 0;
+
+const WRONG_CODE: u8 = 1;
+
+const WRONG_D: u8 = 2;
+
+const WRONG_V: u8 = 3;
+
+// Records that are right, and with what is wrong first.
+fn records() {
+    record(b"code 0", &[0, 0, 0, 0, 0, 0, 0, 0], WRONG_CODE);
+    record(b"code 30", &[0, 30, 0, 0, 0, 0, 0, 0], WRONG_CODE);
+    record(b"OPMODE 6", &[0, 1, 0, 6, 0, 0, 0, 0], RIGHT);
+    record(b"OPMODE 7", &[0, 1, 0, 7, 0, 0, 0, 0], WRONG_D);
+    record(b"OPMODE 7, v 1", &[0, 1, 0, 7, 0, 0, 0, 1], WRONG_D);
+    record(b"OPMODE 6, v 1", &[0, 1, 0, 6, 0, 0, 0, 1], WRONG_V);
+    record(b"POWERON, mask 0", &[0, 21, 0, 0, 0, 0, 0, 0], WRONG_V);
+    record(b"POWERON, mask 1", &[0, 21, 0, 0, 0, 0, 0, 1], RIGHT);
+    record(b"POWEROFF, mask 0", &[0, 22, 0, 0, 0, 0, 0, 0], WRONG_V);
+    record(b"WAIT 1", &[0, 27, 0, 0, 0, 0, 0, 1], RIGHT);
+    record(b"WAIT 2", &[0, 27, 0, 0, 0, 0, 0, 2], WRONG_V);
+    record(b"WAIT 5", &[0, 27, 0, 0, 0, 0, 0, 5], RIGHT);
+    record(b"ALERT 0x346", &[0, 28, 0x03, 0x46, 0, 0, 0, 0], RIGHT);
+    record(b"ALERT 0x347", &[0, 28, 0x03, 0x47, 0, 0, 0, 0], WRONG_D);
+    record(b"STATUS 11", &[0, 29, 0, 11, 0, 0, 0, 8], RIGHT);
+    record(b"STATUS 12", &[0, 29, 0, 12, 0, 0, 0, 8], WRONG_D);
+    record(b"7 bytes", &[0, 29, 0, 11, 0, 0, 0], WRONG_CODE);
+}
+
+// The dwell is 1 to 86400, and a timer that is stopped has none.
+fn records_of_timers() {
+    record(b"TOOTIMER 1, 0", &[0, 7, 0, 1, 0, 0, 0, 0], WRONG_V);
+    record(b"TOOTIMER 1, 1", &[0, 7, 0, 1, 0, 0, 0, 1], RIGHT);
+    record(b"TOOTIMER 1, 86400", &[0, 7, 0, 1, 0, 1, 0x51, 0x80], RIGHT);
+    record(
+        b"TOOTIMER 1, 86401",
+        &[0, 7, 0, 1, 0, 1, 0x51, 0x81],
+        WRONG_V,
+    );
+    record(b"TOOTIMER 0", &[0, 7, 0, 0, 0, 0, 0, 0], RIGHT);
+    record(b"TOOTIMER 0, 1", &[0, 7, 0, 0, 0, 0, 0, 1], WRONG_V);
+    record(b"TOOTIMER 2", &[0, 7, 0, 2, 0, 0, 0, 0], WRONG_D);
+}
+
+fn record(name: &[u8], string: &[u8], expected: u8) {
+    let found = outcome(string, 0);
+    io::write_all(STDOUT_FILENO, name);
+    io::write_all(STDOUT_FILENO, b": ");
+    say_outcome(found);
+    if found == expected {
+        io::write_all(STDOUT_FILENO, b", same\n");
+    } else {
+        io::write_all(STDOUT_FILENO, b", DIFFERENT, expected ");
+        say_outcome(expected);
+        io::write_all(STDOUT_FILENO, b"\n");
+    }
+}
+
+fn outcome(string: &[u8], at: usize) -> u8 {
+    match layout::read_record(string, at) {
+        Reading::Right(_) => RIGHT,
+        Reading::WrongCode => WRONG_CODE,
+        Reading::WrongD => WRONG_D,
+        Reading::WrongV => WRONG_V,
+    }
+}
+
+fn say_outcome(outcome: u8) {
+    if outcome == RIGHT {
+        io::write_all(STDOUT_FILENO, b"right");
+    } else if outcome == WRONG_CODE {
+        io::write_all(STDOUT_FILENO, b"wrong code");
+    } else if outcome == WRONG_D {
+        io::write_all(STDOUT_FILENO, b"wrong d");
+    } else {
+        io::write_all(STDOUT_FILENO, b"wrong v");
+    }
+}
+
+// Lines ----------------------------------------------------------------------------------------------------------------------
+
+fn number(name: &[u8], expected: u64, found: u64) {
+    io::write_all(STDOUT_FILENO, name);
+    io::write_all(STDOUT_FILENO, b": ");
+    io::print_decimal(STDOUT_FILENO, found);
+    if found == expected {
+        io::write_all(STDOUT_FILENO, b", same\n");
+    } else {
+        io::write_all(STDOUT_FILENO, b", DIFFERENT, expected ");
+        io::print_decimal(STDOUT_FILENO, expected);
+        io::write_all(STDOUT_FILENO, b"\n");
+    }
+}
+
+fn yes_or_no(name: &[u8], expected: bool, found: bool) {
+    io::write_all(STDOUT_FILENO, name);
+    if found {
+        io::write_all(STDOUT_FILENO, b": yes, ");
+    } else {
+        io::write_all(STDOUT_FILENO, b": no, ");
+    }
+    if found == expected {
+        io::write_all(STDOUT_FILENO, b"same\n");
+    } else {
+        io::write_all(STDOUT_FILENO, b"DIFFERENT\n");
+    }
+}
+
+// The check as the standard draws it: one bit at a time.
+fn bit_by_bit(s: &[u8]) -> u16 {
+    let mut register: u16 = 0xFFFF;
+    for i in 0..s.len() {
+        register = byte_fed(register, s[i]);
+    }
+    register
+}
+
+// Eight bits, the highest first: what leaves the register comes back at x^12, x^5 and 1.
+fn byte_fed(register: u16, byte: u8) -> u16 {
+    let mut fed = register ^ ((byte as u16) << 8);
+    for _ in 0..8u32 {
+        fed = if fed >> 15 == 1 {
+            (fed << 1) ^ 0x1021
+        } else {
+            fed << 1
+        };
+    }
+    fed
+}

@@ -1,0 +1,3 @@
+-- The specifications of `reader`: the ground reader, its content test and its answers. Assumes nothing.
+pub mod Content
+pub mod Reader
