@@ -1,0 +1,3 @@
+-- The laws of the book: what holds of every event in every sound state, whatever the rules say in detail.
+-- Assumes nothing.
+pub mod RulingLaws
