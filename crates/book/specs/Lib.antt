@@ -1,3 +1,8 @@
 -- The laws of the book: what holds of every event in every sound state, whatever the rules say in detail.
 -- Assumes nothing.
+pub mod Shape
+pub mod ShapeLaws
+pub mod TimerLaws
+pub mod Passing
+pub mod PassingLaws
 pub mod RulingLaws
