@@ -5,4 +5,6 @@ pub mod ShapeLaws
 pub mod TimerLaws
 pub mod Passing
 pub mod PassingLaws
+pub mod ScriptLaws
+pub mod NextLaws
 pub mod RulingLaws
