@@ -7,4 +7,6 @@ pub mod Passing
 pub mod PassingLaws
 pub mod ScriptLaws
 pub mod NextLaws
+pub mod Held
+pub mod HeldLaws
 pub mod RulingLaws
