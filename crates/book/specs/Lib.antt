@@ -7,6 +7,8 @@ pub mod Passing
 pub mod PassingLaws
 pub mod ScriptLaws
 pub mod NextLaws
+pub mod Refusals
+pub mod RefusalLaws
 pub mod Held
 pub mod HeldLaws
 pub mod RulingLaws
