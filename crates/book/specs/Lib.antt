@@ -9,6 +9,7 @@ pub mod ScriptLaws
 pub mod NextLaws
 pub mod Refusals
 pub mod RefusalLaws
+pub mod RangeLaws
 pub mod Held
 pub mod HeldLaws
 pub mod RulingLaws
