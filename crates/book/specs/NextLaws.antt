@@ -1,9 +1,9 @@
 -- State, the law of the book: every sound state steps to a sound state, while there is a number for the event.
 -- Assumes nothing.
-use Prim.Native.Nat.{ℕ, _+_, _<_, _≤_}
-use mathlib.Core.Bool.{Bool, true, false}
+use Prim.Native.Nat.{_+_, _<_, _≤_}
+use mathlib.Core.Bool.{Bool, true}
 use mathlib.Core.List.{List}
-use mathlib.Core.Path.{_≡_, refl, sym, ap, _∙_}
+use mathlib.Core.Path.{_≡_, sym, ap, _∙_}
 use native.Mathlib.Omega.{arith}
 use Rattle.kinds.specs.State.{sound, withCount}
 use Rattle.kinds.specs.Effect.{oneMore}
@@ -12,8 +12,8 @@ use Rattle.kinds.specs.declared.event.Event.{Event}
 use Rattle.kinds.specs.declared.record.Record.{Record}
 use Rattle.rules.specs.Rules.{verdictOf}
 use Rattle.rules.specs.Script.{effects, next}
-use Rattle.book.specs.Shape.{inToo, timerOn, timerAfter}
-use Rattle.book.specs.ShapeLaws.{sound-shape, sound-timer, sound-armed, sound-from, shape-count}
+use Rattle.book.specs.Shape.{timerOn, timerAfter}
+use Rattle.book.specs.ShapeLaws.{sound-timer, sound-armed, sound-from, shape-count}
 use Rattle.book.specs.TimerLaws.{one-more-below, effects-timer}
 use Rattle.book.specs.ScriptLaws.{records-no-status, records-shape, records-timer, next-form}
 

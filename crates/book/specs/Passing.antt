@@ -2,9 +2,8 @@
 -- a refusal has none, and the numbers in them are right, but for those that came with the event; where the shape is sound, there are nine records at most, the shape after them is sound, and the timer is then
 -- on exactly in mode TOO.
 -- Assumes nothing.
-use Prim.Native.Nat.{ℕ, _^_}
-use mathlib.Core.Bool.{Bool, true, false, _&&_, _||_}
-use mathlib.Core.List.{List, [], _∷_}
+use Prim.Native.Nat.{_^_}
+use mathlib.Core.Bool.{Bool, _&&_, _||_}
 use lib.ListN.{length}
 use lib.Dec.{eqb, leb, ltb}
 use Rattle.kinds.specs.Choice.{_⇒_}

@@ -1,8 +1,8 @@
 -- Computed tests of the rules: each event in all shapes, once for all. What they test is `Passes`; the laws of the book are read off it.
 -- Assumes nothing.
 use Prim.Native.Nat.{ℕ}
-use mathlib.Core.Bool.{Bool, true, false, not, _&&_}
-use mathlib.Core.List.{List, [], _∷_}
+use mathlib.Core.Bool.{true}
+use mathlib.Core.List.{[], _∷_}
 use mathlib.Core.Path.{_≡_, refl}
 use lib.Dec.{eqb}
 use Rattle.kinds.specs.ChoiceLaws.{every}

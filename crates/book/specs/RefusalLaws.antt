@@ -2,9 +2,9 @@
 -- condition does; a refusal has the STATUS alone, and changes only the count.
 -- Assumes nothing.
 use Prim.Native.Nat.{ℕ, _+_, _<_, _≤_}
-use mathlib.Core.Bool.{Bool, true, false, not, _&&_, _||_}
+use mathlib.Core.Bool.{Bool, true, false, _&&_}
 use mathlib.Core.List.{List, [], _∷_, _++_}
-use mathlib.Core.Path.{_≡_, refl, sym, ap, _∙_}
+use mathlib.Core.Path.{_≡_, refl, ap, _∙_}
 use native.Mathlib.Omega.{arith}
 use borrow.Author.Tests.{ltb-true, leb-true, le-leb, eqb-true, eq-eqb, not-true}
 use lib.Dec.{eqb, leb, ltb}
@@ -18,7 +18,7 @@ use Rattle.kinds.specs.declared.status.Status.{Status}
 use Rattle.kinds.specs.declared.state.State.{State}
 use Rattle.kinds.specs.declared.event.Event.{Event}
 use Rattle.kinds.specs.declared.record.Record.{Record}
-use Rattle.rules.specs.Rule.{Rule, Verdict, verdict, unless}
+use Rattle.rules.specs.Rule.{Verdict, verdict, unless}
 use Rattle.rules.specs.Rules.{ruleOf, verdictOf, startsPhysics}
 use Rattle.rules.specs.Script.{effects, closing, script, next}
 use Rattle.book.specs.Refusals.{refusalsOf, ascending, some, unmet, metAt, metFrom}

@@ -5,7 +5,7 @@
 use Prim.Native.Nat.{ℕ}
 use mathlib.Core.Bool.{Bool, true, false, not, _&&_, _||_}
 use mathlib.Core.List.{List, [], _∷_}
-use lib.Dec.{eqb, leb}
+use lib.Dec.{eqb}
 use Rattle.kinds.specs.Choice.{if_then_else_, _⇒_}
 use Rattle.kinds.specs.ChoiceLaws.{every}
 use Rattle.kinds.specs.Kinds.{modes, tasks, lpaModes, tooStates, flags, modeIs, taskIs, lpaModeIs, tooStateIs, flagNumber}

@@ -1,16 +1,15 @@
 -- The TOO timer, laws: what each record does to armed, and what a list of records without a STATUS does to armed and count.
 -- Assumes nothing.
 use Prim.Native.Nat.{ℕ, _+_, _<_, _≤_}
-use mathlib.Core.Bool.{Bool, true, false, not, _&&_}
+use mathlib.Core.Bool.{Bool, true, false}
 use mathlib.Core.List.{List, [], _∷_}
 use mathlib.Core.Path.{_≡_, refl, ap, subst, _∙_}
 use native.Mathlib.Omega.{arith}
 use borrow.Author.Tests.{ne-eqb, not-true}
-use lib.Dec.{eqb}
 use Rattle.kinds.specs.Choice.{if_then_else_}
 use Rattle.kinds.specs.ChoiceLaws.{every, and-left, and-right}
 use Rattle.kinds.specs.State.{zeroed}
-use Rattle.kinds.specs.Record.{STATUS, partsOfRecord}
+use Rattle.kinds.specs.Record.{partsOfRecord}
 use Rattle.kinds.specs.Effect.{effect, oneMore}
 use Rattle.kinds.specs.EffectLaws.{effect-count}
 use Rattle.kinds.specs.declared.state.State.{State}
