@@ -5,6 +5,7 @@
 use Prim.Native.Nat.{ℕ, zero, suc, _+_, _-_, _*_}
 use mathlib.Core.Bool.{Bool, true, false}
 use mathlib.Core.List.{List, [], _∷_, _++_, List·Memᴰ}
+use mathlib.Core.Logic.{_⊎_}
 use mathlib.Core.Path.{_≡_}
 use lib.ListN.{length, take}
 use lib.Dec.{eqb}
@@ -21,8 +22,8 @@ use Rattle.layout.specs.Record.{readRecord}
 use Rattle.manager.specs.Manager.{Outcome, freshManager, stepped, flushedOf, steppedOf}
 use Rattle.manager.specs.declared.Manager.{Manager}
 use Rattle.reader.specs.Reader.{freshReader, readOf, replyNumber}
-use Rattle.reader.specs.declared.Reader.{Reader}
-use Rattle.reader.specs.declared.Read.{Read}
+use Rattle.reader.specs.declared.reader.Reader.{Reader}
+use Rattle.reader.specs.declared.reply.Read.{Read}
 
 -- On board ---------------------------------------------------------------------------------------------------------------------
 
