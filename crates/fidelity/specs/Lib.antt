@@ -7,3 +7,5 @@ pub mod Replay
 pub mod ReplayLaws
 pub mod Chain
 pub mod ChainLaws
+pub mod Open
+pub mod OpenLaws
