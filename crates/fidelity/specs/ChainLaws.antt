@@ -45,11 +45,11 @@ chain-longer number states more n s (b ∷ bs) t chain =
 on-one : (n m : ℕ) → n + suc m ≡ n + 1 + m
 on-one n m = omega arith
 
-link-at : {number n : ℕ} {s t : State} {b : List ℕ} (m : ℕ) → n ≡ m → Link number n s b t → Link number m s b t
-link-at m e link =
+pub link-at : {number n : ℕ} {s t : State} {b : List ℕ} (log m : ℕ) → number ≡ log → n ≡ m → Link number n s b t → Link log m s b t
+link-at log m same e link =
     record {
       whole = link .whole;
-      log = link .log;
+      log = link .log ∙ same;
       place = link .place ∙ e;
       earlier = link .earlier;
       content = link .content;
@@ -63,13 +63,13 @@ pub chain-more : (number : ℕ) (states : List State) (n : ℕ) (s : State) (bs 
     → Chain number states n s bs t → Link number (n + length bs) t b u → At states (u .count) u
     → Chain number states n s (bs ++ b ∷ []) u
 chain-more number states n s [] t u b chain link known =
-    (u, link-from s chain (link-at n (add-zero n) link), known, refl)
+    (u, link-from s chain (link-at number n refl (add-zero n) link), known, refl)
 chain-more number states n s (c ∷ bs) t u b chain link known =
     (
       chain .0,
       chain .1,
       chain .2,
-      chain-more number states (n + 1) (chain .0) bs t u b (chain .3) (link-at (n + 1 + length bs) (on-one n (length bs)) link) known,
+      chain-more number states (n + 1) (chain .0) bs t u b (chain .3) (link-at number (n + 1 + length bs) refl (on-one n (length bs)) link) known,
     )
 
 -- Blocks of a chain ------------------------------------------------------------------------------------------------------------

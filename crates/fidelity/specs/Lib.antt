@@ -9,3 +9,4 @@ pub mod Chain
 pub mod ChainLaws
 pub mod Open
 pub mod OpenLaws
+pub mod RunLaws
