@@ -10,3 +10,4 @@ pub mod ChainLaws
 pub mod Open
 pub mod OpenLaws
 pub mod RunLaws
+pub mod GroundLaws
