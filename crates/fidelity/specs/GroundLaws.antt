@@ -256,3 +256,51 @@ module _ (number : ℕ) (states : List State) (blocks : List (List ℕ)) (end : 
       passed : (bs : List (List ℕ)) → Sublistᴰ (b ∷ more) bs ⊎ ((b ≡ b) × Sublistᴰ more bs) → Sublistᴰ more bs
       passed bs (inl s) = Sublistᴰ·trans (Sublistᴰ·cons (Sublistᴰ·refl more)) s
       passed bs (inr t) = t .1
+
+  -- Any string -------------------------------------------------------------------------------------------------------------------
+
+  after-coming : (rest : List (List ℕ)) → f .rest ≡ rest → List·Memᴰ b rest → AfterRead (readOf (w .reader) b)
+  after-coming [] e m = absurd (List·Memᴰ·not-nil m)
+  after-coming (c ∷ more) e m = either (List·Memᴰ·cases-cons m)
+    where
+      chain : Chain number states (w .reader .next) (w .reader .state) (c ∷ more) end
+      chain = rw e at (f .coming)
+
+      later : List·Memᴰ b more → w .reader .next < headOf b .block
+      later m′ = omega (arith, chain-member number states (w .reader .next + 1) (chain .0) more end b (chain .3) m′ .low)
+
+      either : (b ≡ c) ⊎ List·Memᴰ b more → AfterRead (readOf (w .reader) b)
+      either (inl this) = after-turn more (e ∙ ap (λ (x : List ℕ). x ∷ more) (sym this))
+      either (inr m′) = after-gap (subst (λ (l : List (List ℕ)). List·Memᴰ b l) (sym e) m) (later m′)
+
+  after-one : List·Memᴰ b blocks ⊎ Stray number b → AfterRead (readOf (w .reader) b)
+  after-one (inr stray) = after-stray stray
+  after-one (inl m) = either (List·Memᴰ·append-cases (w .applied) (rw (f .split) at m))
+    where
+      either : List·Memᴰ b (w .applied) ⊎ List·Memᴰ b (f .rest) → AfterRead (readOf (w .reader) b)
+      either (inl m′) = after-past m′
+      either (inr m′) = after-coming (f .rest) refl m′
+
+module _ (number : ℕ) (states : List State) (blocks : List (List ℕ)) (end : State) where
+  -- the same, of a list that is written otherwise
+  followed-same : (met met′ : List (List ℕ)) (w : Ground) → met ≡ met′ → (f : Followed number states blocks end met w)
+      → (f′ : Followed number states blocks end met′ w) × (f′ .rest ≡ f .rest)
+  followed-same met met′ w e f =
+      subst (λ (l : List (List ℕ)). (f′ : Followed number states blocks end l w) × (f′ .rest ≡ f .rest)) e (f, refl)
+
+  -- any strings: and if the rest was to come in order, nothing is left of it
+  pub follows : (bs met met′ : List (List ℕ)) → met ++ bs ≡ met′ → (w : Ground) (f : Followed number states blocks end met w)
+      → Delivery number blocks bs
+      → (f′ : Followed number states blocks end met′ (hears w bs)) × (Sublistᴰ (f .rest) bs → f′ .rest ≡ [])
+  follows [] met met′ e w f came =
+      let same : (f′ : Followed number states blocks end met′ w) × (f′ .rest ≡ f .rest)
+      = followed-same met met′ w (sym (append-nil met) ∙ e) f in
+      (same .0, λ s. same .1 ∙ Sublistᴰ·eq-nil s)
+  follows (b ∷ bs) met met′ e w f came =
+      let one : (f′ : Followed number states blocks end (met ++ b ∷ []) (afterRead w b (readOf (w .reader) b)))
+          × ((cs : List (List ℕ)) → Sublistᴰ (f .rest) (b ∷ cs) → Sublistᴰ (f′ .rest) cs)
+      = after-one number states blocks end met w f b (came .0) in
+      let all : (f′ : Followed number states blocks end met′ (hears (afterRead w b (readOf (w .reader) b)) bs))
+          × (Sublistᴰ (one .0 .rest) bs → f′ .rest ≡ [])
+      = follows bs (met ++ b ∷ []) met′ (append-snoc met b bs ∙ e) (afterRead w b (readOf (w .reader) b)) (one .0) (came .1) in
+      (all .0, λ s. all .1 (one .1 bs s))

@@ -11,3 +11,4 @@ pub mod Open
 pub mod OpenLaws
 pub mod RunLaws
 pub mod GroundLaws
+pub mod Proof
