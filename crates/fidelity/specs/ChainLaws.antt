@@ -5,14 +5,14 @@ use Prim.Native.Nat.{ℕ, zero, suc, _+_, _≤_, _<_}
 use mathlib.Core.Bool.{true}
 use mathlib.Core.List.{List, [], _∷_, _++_, List·Memᴰ, List·Memᴰ·cases-cons, List·Memᴰ·not-nil}
 use mathlib.Core.Logic.{_⊎_, inl, inr}
-use mathlib.Core.Path.{_≡_, refl, ap, sym, _∙_}
+use mathlib.Core.Path.{_≡_, refl, ap, _∙_}
 use native.Mathlib.Nat.{add-zero}
 use native.Mathlib.Omega.{arith}
 use lib.ListN.{length}
 use Rattle.kinds.specs.declared.state.State.{State}
 use Rattle.layout.specs.Block.{intact, headOf}
 use Rattle.reader.specs.Content.{LAST}
-use Rattle.fidelity.specs.Pass.{At, lastIn, lastAfter}
+use Rattle.fidelity.specs.Pass.{At, lastAfter}
 use Rattle.fidelity.specs.Chain.{Link, Chain}
 
 -- Histories --------------------------------------------------------------------------------------------------------------------
@@ -29,18 +29,28 @@ at-length (y ∷ xs) x = at-length xs x
 pub at-end : {A : Type 0} (xs : List A) (n : ℕ) (x : A) → length xs ≡ n → At (xs ++ x ∷ []) n x
 at-end xs n x e = rw (← e) (at-length xs x)
 
+-- with one more at the end, the n-th is one of the former or the new one
+pub at-cases : {A : Type 0} (xs : List A) (x : A) (n : ℕ) (y : A) → At (xs ++ x ∷ []) n y → At xs n y ⊎ ((n ≡ length xs) × (x ≡ y))
+at-cases [] x zero y e = inr (refl, e)
+at-cases [] x (suc n) y e = absurd e
+at-cases (z ∷ xs) x zero y e = inl e
+at-cases {A} (z ∷ xs) x (suc n) y e = further (at-cases xs x n y e)
+  where
+    further : At xs n y ⊎ ((n ≡ length xs) × (x ≡ y)) → At xs n y ⊎ ((suc n ≡ suc (length xs)) × (x ≡ y))
+    further (inl before) = inl before
+    further (inr last) = inr (ap suc (last .0), last .1)
+
 -- Longer chains ----------------------------------------------------------------------------------------------------------------
 
 pub chain-longer : (number : ℕ) (states more : List State) (n : ℕ) (s : State) (bs : List (List ℕ)) (t : State)
     → Chain number states n s bs t → Chain number (states ++ more) n s bs t
 chain-longer number states more n s [] t chain = chain
-chain-longer number states more n s (b ∷ bs) t chain =
-    (
-      chain .0,
-      chain .1,
-      at-longer states more (chain .0 .count) (chain .0) (chain .2),
-      chain-longer number states more (n + 1) (chain .0) bs t (chain .3),
-    )
+chain-longer number states more n s (b ∷ bs) t chain = (
+  chain .0,
+  chain .1,
+  at-longer states more (chain .0 .count) (chain .0) (chain .2),
+  chain-longer number states more (n + 1) (chain .0) bs t (chain .3),
+)
 
 on-one : (n m : ℕ) → n + suc m ≡ n + 1 + m
 on-one n m = omega arith
@@ -64,13 +74,12 @@ pub chain-more : (number : ℕ) (states : List State) (n : ℕ) (s : State) (bs 
     → Chain number states n s (bs ++ b ∷ []) u
 chain-more number states n s [] t u b chain link known =
     (u, link-from s chain (link-at number n refl (add-zero n) link), known, refl)
-chain-more number states n s (c ∷ bs) t u b chain link known =
-    (
-      chain .0,
-      chain .1,
-      chain .2,
-      chain-more number states (n + 1) (chain .0) bs t u b (chain .3) (link-at number (n + 1 + length bs) refl (on-one n (length bs)) link) known,
-    )
+chain-more number states n s (c ∷ bs) t u b chain link known = (
+  chain .0,
+  chain .1,
+  chain .2,
+  chain-more number states (n + 1) (chain .0) bs t u b (chain .3) (link-at number (n + 1 + length bs) refl (on-one n (length bs)) link) known,
+)
 
 -- Blocks of a chain ------------------------------------------------------------------------------------------------------------
 

@@ -23,9 +23,7 @@ use mathlib.Core.Bool.{true}
 use mathlib.Core.List.{List, Sublistᴰ}
 use mathlib.Core.Logic.{_↔_}
 use mathlib.Core.Path.{_≡_}
-use Rattle.kinds.specs.declared.state.State.{State}
 use Rattle.reader.specs.Reader.{isBehind}
-use Rattle.reader.specs.declared.reader.Reader.{Reader}
 use Rattle.fidelity.specs.Pass.{Operation, EventBytes, Run, runOf, At, lastEvent, Delivery, Ground, groundOf, Missed}
 
 module _ (run : Run) (delivered : List (List ℕ)) (ground : Ground) where

@@ -19,11 +19,9 @@ use Rattle.kinds.specs.State.{fresh}
 use Rattle.kinds.specs.declared.state.State.{State}
 use Rattle.layout.specs.Block.{intact, headOf}
 use Rattle.layout.specs.BlockLaws.{intact-length, intact-check, intact-other-length, intact-wrong-check}
-use Rattle.reader.specs.Content.{contentOf}
 use Rattle.reader.specs.ContentLaws.{picked}
 use Rattle.reader.specs.Reader.{readerSound, answered, raised, ahead, onward, inTurn, readOf}
-use Rattle.reader.specs.ReaderLaws.{read-damaged, read-other-log, read-already, read-gap, read-in-turn, read-sound, sound-parts}
-use Rattle.reader.specs.declared.reader.Reader.{Reader}
+use Rattle.reader.specs.ReaderLaws.{read-damaged, read-other-log, read-already, read-gap, read-in-turn, read-sound}
 use Rattle.reader.specs.declared.reply.Reply.{Reply}
 use Rattle.reader.specs.declared.reply.Read.{Read}
 use Rattle.fidelity.specs.Pass.{At, Stray, another-length, wrong-check, another-log, Delivery, Ground, afterRead, hears}
@@ -89,24 +87,23 @@ module _ (number : ℕ) (states : List State) (blocks : List (List ℕ)) (end : 
   -- The reader stays as it is ----------------------------------------------------------------------------------------------------
 
   stays : (List·Memᴰ b (f .rest) → ⊥) → After w
-  stays never =
-      (
-        record {
-          rest = f .rest;
-          split = f .split;
-          next = f .next;
-          log = f .log;
-          own = f .own;
-          known = f .known;
-          past = f .past;
-          coming = f .coming;
-          low = λ h. let (c, m, m′, e) = f .low h in (c, m, met-more c m′, e);
-          high =
-            λ c m m′. met-cases (λ (x : List ℕ). List·Memᴰ x (f .rest) → headOf x .block < w .reader .heard) c
-            (λ before _. f .high c m before) (λ here. absurd (never here)) m′ m;
-        },
-        λ bs s. passed bs (Sublistᴰ·cases-cons s),
-      )
+  stays never = (
+    record {
+      rest = f .rest;
+      split = f .split;
+      next = f .next;
+      log = f .log;
+      own = f .own;
+      known = f .known;
+      past = f .past;
+      coming = f .coming;
+      low = λ h. let (c, m, m′, e) = f .low h in (c, m, met-more c m′, e);
+      high =
+          λ c m m′. met-cases (λ (x : List ℕ). List·Memᴰ x (f .rest) → headOf x .block < w .reader .heard) c
+          (λ before _. f .high c m before) (λ here. absurd (never here)) m′ m;
+    },
+    λ bs s. passed bs (Sublistᴰ·cases-cons s),
+  )
     where
       passed : (bs : List (List ℕ)) → Sublistᴰ (f .rest) bs ⊎ ((r : List (List ℕ)) × (f .rest ≡ b ∷ r) × Sublistᴰ r bs) → Sublistᴰ (f .rest) bs
       passed bs (inl s) = s
@@ -177,8 +174,8 @@ module _ (number : ℕ) (states : List State) (blocks : List (List ℕ)) (end : 
             coming = f .coming;
             low = behind;
             high =
-              λ c n n′. met-cases (λ (x : List ℕ). headOf x .block < raised (w .reader .heard) (headOf b .block)) c
-              (λ before. omega (arith, f .high c n before, most .0)) (most .1) n′;
+                λ c n n′. met-cases (λ (x : List ℕ). headOf x .block < raised (w .reader .heard) (headOf b .block)) c
+                (λ before. omega (arith, f .high c n before, most .0)) (most .1) n′;
           }
 
       first : (r : List (List ℕ)) → Chain number states (w .reader .next) (w .reader .state) (b ∷ r) end → ⊥
@@ -244,13 +241,13 @@ module _ (number : ℕ) (states : List State) (blocks : List (List ℕ)) (end : 
             own = rw turn at (read-sound (w .reader) b (f .own));
             known = chain .2;
             past =
-              chain-more number states 0 fresh (w .applied) (w .reader .state) after b (f .past)
-              (link-at number (0 + length (w .applied)) refl (f .next ∙ sym (zero-add (length (w .applied)))) link) (chain .2);
+                chain-more number states 0 fresh (w .applied) (w .reader .state) after b (f .past)
+                (link-at number (0 + length (w .applied)) refl (f .next ∙ sym (zero-add (length (w .applied)))) link) (chain .2);
             coming = chain .3;
             low = behind;
             high =
-              λ c n n′. met-cases (λ (x : List ℕ). headOf x .block < heard) c
-              (λ before. omega (arith, f .high c (in-rest c n) before, most .0)) (omega (arith, link .place, most .1)) n′;
+                λ c n n′. met-cases (λ (x : List ℕ). headOf x .block < heard) c
+                (λ before. omega (arith, f .high c (in-rest c n) before, most .0)) (omega (arith, link .place, most .1)) n′;
           }
 
       passed : (bs : List (List ℕ)) → Sublistᴰ (b ∷ more) bs ⊎ ((b ≡ b) × Sublistᴰ more bs) → Sublistᴰ more bs
@@ -298,9 +295,9 @@ module _ (number : ℕ) (states : List State) (blocks : List (List ℕ)) (end : 
       (same .0, λ s. same .1 ∙ Sublistᴰ·eq-nil s)
   follows (b ∷ bs) met met′ e w f came =
       let one : (f′ : Followed number states blocks end (met ++ b ∷ []) (afterRead w b (readOf (w .reader) b)))
-          × ((cs : List (List ℕ)) → Sublistᴰ (f .rest) (b ∷ cs) → Sublistᴰ (f′ .rest) cs)
+      × ((cs : List (List ℕ)) → Sublistᴰ (f .rest) (b ∷ cs) → Sublistᴰ (f′ .rest) cs)
       = after-one number states blocks end met w f b (came .0) in
       let all : (f′ : Followed number states blocks end met′ (hears (afterRead w b (readOf (w .reader) b)) bs))
-          × (Sublistᴰ (one .0 .rest) bs → f′ .rest ≡ [])
+      × (Sublistᴰ (one .0 .rest) bs → f′ .rest ≡ [])
       = follows bs (met ++ b ∷ []) met′ (append-snoc met b bs ∙ e) (afterRead w b (readOf (w .reader) b)) (one .0) (came .1) in
       (all .0, λ s. all .1 (one .1 bs s))

@@ -12,13 +12,12 @@
 -- Of the manager: its definitions alone.
 -- Assumes nothing.
 use Prim.Native.Nat.{ℕ, _+_, _*_, _^_, _<_, _≤_}
-use mathlib.Core.Bool.{Bool, true, false}
+use mathlib.Core.Bool.{true}
 use mathlib.Core.List.{List, [], _∷_, _++_}
-use mathlib.Core.Path.{_≡_, refl, ap, sym, _∙_}
+use mathlib.Core.Path.{_≡_, ap, sym, _∙_}
 use lib.ListN.{length, take}
 use Rattle.kinds.specs.ChoiceLaws.{every}
 use Rattle.kinds.specs.State.{sound}
-use Rattle.kinds.specs.Effect.{oneMore}
 use Rattle.kinds.specs.Event.{partsOfEvent}
 use Rattle.kinds.specs.Record.{recordInRange}
 use Rattle.kinds.specs.declared.state.State.{State}

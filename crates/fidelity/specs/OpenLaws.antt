@@ -1,16 +1,15 @@
 -- Laws of the open block: an empty one, one event more, and what it is when it is closed: a link of the chain.
 -- Assumes nothing.
 use Prim.Native.Nat.{ℕ, suc, _+_, _-_, _*_, _^_, _<_, _≤_}
-use mathlib.Core.Bool.{Bool, true, false, _&&_}
+use mathlib.Core.Bool.{Bool, true}
 use mathlib.Core.List.{List, [], _∷_, _++_, append-assoc}
-use mathlib.Core.Logic.{_⊎_, inl, inr}
+use mathlib.Core.Logic.{inl, inr}
 use mathlib.Core.Path.{_≡_, refl, ap, sym, _∙_}
 use native.Mathlib.Nat.{add-zero}
 use native.Mathlib.Omega.{arith}
 use borrow.Author.Tests.{le-leb}
 use lib.ListN.{length, take, drop, length-append, length-replicate, take-append-drop}
 use lib.Seq.{take-at, take-all, drop-append-add, length-paste, take-paste, paste}
-use lib.Dec.{leb}
 use Rattle.frame_check.specs.Check.{checkOf}
 use Rattle.kinds.specs.ChoiceLaws.{every, and-left, and-right}
 use Rattle.kinds.specs.Record.{recordInRange, partsOfRecord}
@@ -22,7 +21,7 @@ use Rattle.layout.specs.Bytes.{two}
 use Rattle.layout.specs.Block.{headOf, usedInRange, headBytes, checkedBytes, blockBytes}
 use Rattle.layout.specs.BlockLaws.{head-length, checked-length, block-intact, block-head}
 use Rattle.layout.specs.Record.{readRecord}
-use Rattle.layout.specs.Zeros.{allZero, zerosBetween}
+use Rattle.layout.specs.Zeros.{zerosBetween}
 use Rattle.layout.specs.declared.block.Head.{Head}
 use Rattle.draft.specs.declared.Draft.{Draft}
 use Rattle.book.specs.Passing.{vFits}
@@ -34,7 +33,7 @@ use Rattle.reader.specs.ContentLaws.{content-read}
 use Rattle.reader.specs.declared.content.Content.{Content}
 use Rattle.fidelity.specs.Pass.{lastIn, eventNumber}
 use Rattle.fidelity.specs.Interface.{whole, Ruled}
-use Rattle.fidelity.specs.Replay.{replay, StandIn}
+use Rattle.fidelity.specs.Replay.{StandIn}
 use Rattle.fidelity.specs.ReplayLaws.{reads-replay, replay-append, replay-event, stand-in}
 use Rattle.fidelity.specs.Chain.{Link}
 use Rattle.fidelity.specs.Open.{Ends, Open}
@@ -110,9 +109,9 @@ module _ (s t : State) (h h′ : Head) (area : List ℕ) (d : Draft) (o : Open s
         fit = every-append vFits (o .records) more (o .fit) (r .fit);
         before = before ∙ o .before;
         leads =
-          replay-append (o .records) more 0 s t (o .leads)
-          ∙ replay-event (r .actions) 0 t (r .status) (t .count + 1) (r .quiet) (omega (arith, r .few)) refl (r .sound)
-          ∙ ap Content.Right (sym (r .state));
+            replay-append (o .records) more 0 s t (o .leads)
+            ∙ replay-event (r .actions) 0 t (r .status) (t .count + 1) (r .quiet) (omega (arith, r .few)) refl (r .sound)
+            ∙ ap Content.Right (sym (r .state));
         ends = inr (o .records ++ r .actions, r .status, ends-more);
       }
 
@@ -193,5 +192,5 @@ module _ (s t : State) (h : Head) (area : List ℕ) (o : Open s h area t) where
           earlier = rw head-closed (λ e. omega arith);
           content = content-closed;
           last =
-            ap (λ (x : Head). eventNumber (readRecord (blockBytes h area) (14 + 8 * (x .used - 1)))) head-closed ∙ last-read some (o .ends);
+              ap (λ (x : Head). eventNumber (readRecord (blockBytes h area) (14 + 8 * (x .used - 1)))) head-closed ∙ last-read some (o .ends);
         }

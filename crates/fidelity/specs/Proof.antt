@@ -1,23 +1,19 @@
 -- The proof of the statement, from what the manager keeps and what the reader keeps.
 -- Assumes nothing.
-use Prim.Native.Nat.{ℕ, _+_, _^_, _<_}
+use Prim.Native.Nat.{ℕ}
 use mathlib.Core.Bool.{true}
-use mathlib.Core.List.{List, [], _∷_, _++_, List·Memᴰ, List·Memᴰ·not-nil, List·Memᴰ·append-cases, Memᴰ·append-right, Sublistᴰ}
+use mathlib.Core.List.{List, [], List·Memᴰ, List·Memᴰ·not-nil, List·Memᴰ·append-cases, Memᴰ·append-right}
 use mathlib.Core.Logic.{_⊎_, inl, inr}
 use mathlib.Core.Path.{_≡_, refl, ap, sym, _∙_, subst}
 use native.Mathlib.Omega.{arith}
 use borrow.Author.Tests.{ltb-true, lt-ltb}
-use lib.ListN.{length}
 use Rattle.kinds.specs.State.{fresh, zeroed}
 use Rattle.kinds.specs.declared.state.State.{State}
-use Rattle.layout.specs.Block.{headOf}
 use Rattle.reader.specs.Reader.{isBehind}
 use Rattle.reader.specs.ReaderLaws.{fresh-sound}
-use Rattle.reader.specs.declared.reader.Reader.{Reader}
-use Rattle.fidelity.specs.Pass.{Operation, EventBytes, Run, runOf, At, lastAfter, lastEvent, Delivery, Ground, freshGround, groundOf, Missed}
-use Rattle.fidelity.specs.Fidelity.{Faithful, Fidelity}
-use Rattle.fidelity.specs.Chain.{Chain}
-use Rattle.fidelity.specs.ChainLaws.{Member, chain-member, chain-last}
+use Rattle.fidelity.specs.Pass.{Run, runOf, At, lastAfter, lastEvent, Ground, freshGround, groundOf, Missed}
+use Rattle.fidelity.specs.Fidelity.{Fidelity}
+use Rattle.fidelity.specs.ChainLaws.{chain-member, chain-last}
 use Rattle.fidelity.specs.RunLaws.{Kept, run-kept}
 use Rattle.fidelity.specs.GroundLaws.{Followed, follows}
 
@@ -88,8 +84,9 @@ fidelity number small operations bytes delivered came =
     let all = follows number (r .states) (r .blocks) (k .base) delivered [] delivered refl (freshGround number) start came in
     record {
       shown = all .0 .known;
-      behind =
-        (behind-missed number r k delivered (groundOf number delivered) (all .0),
-        missed-behind number r k delivered (groundOf number delivered) (all .0));
+      behind = (
+        behind-missed number r k delivered (groundOf number delivered) (all .0),
+        missed-behind number r k delivered (groundOf number delivered) (all .0),
+      );
       complete = λ ordered. shows-last number r k delivered (groundOf number delivered) (all .0) (all .1 ordered);
     }

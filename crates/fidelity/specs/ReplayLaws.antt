@@ -1,14 +1,14 @@
 -- Replaying records, laws: records that stand in a block are read as they are replayed; what is replayed after what was replayed to
 -- its end; and the records of an event are replayed to the state that they lead to.
 -- Assumes nothing.
-use Prim.Native.Nat.{ℕ, _+_, _*_, _^_, _<_, _≤_}
-use mathlib.Core.Bool.{Bool, true, false, not, _&&_}
+use Prim.Native.Nat.{ℕ, _+_, _^_, _≤_}
+use mathlib.Core.Bool.{true, false}
 use mathlib.Core.List.{List, [], _∷_, _++_, append-assoc}
-use mathlib.Core.Path.{_≡_, refl, ap, sym, _∙_}
+use mathlib.Core.Path.{_≡_, ap, sym, _∙_}
 use native.Mathlib.Omega.{arith}
 use borrow.Author.Tests.{eqb-true, eq-eqb, lt-leb, not-true, ltb-true}
 use lib.ListN.{length, length-append}
-use lib.Dec.{eqb, ltb}
+use lib.Dec.{eqb}
 use Rattle.kinds.specs.ChoiceLaws.{every, and-left, and-right}
 use Rattle.kinds.specs.State.{sound}
 use Rattle.kinds.specs.Effect.{effect}
@@ -18,7 +18,7 @@ use Rattle.kinds.specs.declared.state.State.{State}
 use Rattle.kinds.specs.declared.status.Status.{Status}
 use Rattle.kinds.specs.declared.record.Record.{Record}
 use Rattle.kinds.specs.declared.record.Reading.{Reading}
-use Rattle.layout.specs.Record.{readRecord, recordBytes}
+use Rattle.layout.specs.Record.{recordBytes}
 use Rattle.layout.specs.RecordLaws.{record-read, record-bytes-length}
 use Rattle.rules.specs.Script.{effects}
 use Rattle.book.specs.Shape.{notStatus}
@@ -98,17 +98,16 @@ replay-event (r ∷ rs) k s x n quiet few next ok =
 stand-at : (pre post : List ℕ) (rs : List Record) (at : ℕ) → length pre ≡ place at
     → every recordInRange rs ≡ true → every vFits rs ≡ true → StandIn (pre ++ recordsBytes rs ++ post) at rs
 stand-at pre post [] at here range fit = tt
-stand-at pre post (r ∷ rs) at here range fit =
-    (
-      rw (← here, ← append-assoc pre (recordBytes r) (recordsBytes rs), append-assoc (pre ++ recordBytes r) (recordsBytes rs) post)
+stand-at pre post (r ∷ rs) at here range fit = (
+  rw (← here, ← append-assoc pre (recordBytes r) (recordsBytes rs), append-assoc (pre ++ recordBytes r) (recordsBytes rs) post)
       (record-read pre (recordsBytes rs ++ post) r (and-left (recordInRange r) (every recordInRange rs) range)
       (ltb-true (partsOfRecord r .v) (2 ^ 32) (and-left (vFits r) (every vFits rs) fit))),
-      rw (← append-assoc pre (recordBytes r) (recordsBytes rs))
+  rw (← append-assoc pre (recordBytes r) (recordsBytes rs))
       (stand-at (pre ++ recordBytes r) post rs (at + 1)
       (length-append pre (recordBytes r) ∙ omega (arith, record-bytes-length r))
       (and-right (recordInRange r) (every recordInRange rs) range)
       (and-right (vFits r) (every vFits rs) fit)),
-    )
+)
 
 pub stand-in : (b pre post : List ℕ) (rs : List Record) (at : ℕ) → b ≡ pre ++ recordsBytes rs ++ post → length pre ≡ place at
     → every recordInRange rs ≡ true → every vFits rs ≡ true → StandIn b at rs

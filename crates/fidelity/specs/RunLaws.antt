@@ -1,9 +1,10 @@
 -- What a manager that began fresh keeps, whatever it is asked: its blocks are a chain from the fresh state to the state at which the
 -- open block began, and the open block's records lead from there to its present state. Each of these states is in its history.
 -- Assumes nothing.
-use Prim.Native.Nat.{ℕ, _+_, _-_, _*_, _^_, _<_, _≤_}
+use Prim.Native.Nat.{ℕ, zero, suc, _+_, _*_, _^_, _<_, _≤_}
 use mathlib.Core.Bool.{Bool, true, false, not, _&&_}
 use mathlib.Core.List.{List, [], _∷_, _++_}
+use mathlib.Core.Logic.{_⊎_, inl, inr}
 use mathlib.Core.Path.{_≡_, refl, ap, sym, _∙_}
 use native.Mathlib.Nat.{zero-add}
 use native.Mathlib.Omega.{arith}
@@ -28,12 +29,11 @@ use Rattle.draft.specs.declared.Draft.{Draft}
 use Rattle.rules.specs.Ruling.{rulingOf}
 use Rattle.manager.specs.Log.{same, logSound, blankArea, fits, areaWith, headWith, headNext}
 use Rattle.manager.specs.Manager.{LAST, freshHead, bothSound, Outcome, kept, added, turned, logged, heardEvent, stepOf, flushed, flushOf, stepped, flushedOf}
-use Rattle.manager.specs.declared.Manager.{Manager}
 use Rattle.reader.specs.ContentLaws.{picked}
 use Rattle.fidelity.specs.Pass.{Operation, stepping, flushing, EventBytes, Run, freshRun, afterStep, afterFlush, afterAll, runOf, At}
 use Rattle.fidelity.specs.Interface.{whole, Ruled, ruled}
 use Rattle.fidelity.specs.Chain.{Link, Chain}
-use Rattle.fidelity.specs.ChainLaws.{at-longer, at-end, chain-longer, chain-more, link-at}
+use Rattle.fidelity.specs.ChainLaws.{at-longer, at-end, at-cases, chain-longer, chain-more, link-at}
 use Rattle.fidelity.specs.Open.{Open}
 use Rattle.fidelity.specs.OpenLaws.{open-blank, open-more, closed-link}
 
@@ -88,9 +88,15 @@ pub record Kept (number : ℕ) (r : Run) : Type 0 where
   pub blocks : r .manager .head .block ≡ length (r .blocks)
   pub most : r .manager .state .count ≤ 4_294_967_295
   pub long : length (r .states) ≡ r .manager .state .count + 1
+  pub numbered : (n : ℕ) (s : State) → At (r .states) n s → s .count ≡ n
   pub first : At (r .states) (fresh .count) fresh
   pub now : At (r .states) (r .manager .state .count) (r .manager .state)
   pub chain : Chain number (r .states) 0 fresh (r .blocks) base
+
+fresh-numbered : (n : ℕ) (s : State) → At (fresh ∷ []) n s → s .count ≡ n
+unfolding zeroed
+fresh-numbered zero s e = sym (ap (λ (t : State). t .count) e)
+fresh-numbered (suc n) s e = absurd e
 
 kept-fresh : (number : ℕ) → Kept number (freshRun number)
 unfolding zeroed
@@ -102,6 +108,7 @@ kept-fresh number =
       blocks = refl;
       most = omega arith;
       long = refl;
+      numbered = fresh-numbered;
       first = refl;
       now = refl;
       chain = refl;
@@ -142,10 +149,11 @@ module _ (number : ℕ) (small : number < 2 ^ 32) (r : Run) (k : Kept number r) 
         blocks = ap (λ (n : ℕ). n + 1) (k .blocks) ∙ sym (length-append (r .blocks) (blockBytes (head r) (area r) ∷ []));
         most = k .most;
         long = k .long;
+        numbered = k .numbered;
         first = k .first;
         now = k .now;
         chain =
-          chain-more number (r .states) 0 fresh (r .blocks) (k .base) (now r) (blockBytes (head r) (area r)) (k .chain) (closed-block t some) (k .now);
+            chain-more number (r .states) 0 fresh (r .blocks) (k .base) (now r) (blockBytes (head r) (area r)) (k .chain) (closed-block t some) (k .now);
       }
 
   -- an event's records go into the open block
@@ -163,6 +171,10 @@ module _ (number : ℕ) (small : number < 2 ^ 32) (r : Run) (k : Kept number r) 
     count-after : d .state .count ≡ now r .count + 1
     count-after = ap (λ (u : State). u .count) (e .state) ∙ e .number
 
+    numbered-after : (n : ℕ) (s : State) → At (r .states) n s ⊎ ((n ≡ length (r .states)) × (d .state ≡ s)) → s .count ≡ n
+    numbered-after n s (inl before) = k .numbered n s before
+    numbered-after n s (inr last) = sym (ap (λ (u : State). u .count) (last .1)) ∙ count-after ∙ sym (k .long) ∙ sym (last .0)
+
     kept-added : Kept number addedRun
     kept-added =
         record {
@@ -172,6 +184,7 @@ module _ (number : ℕ) (small : number < 2 ^ 32) (r : Run) (k : Kept number r) 
           blocks = block ∙ k .blocks;
           most = omega (arith, count-after);
           long = length-append (r .states) (d .state ∷ []) ∙ omega (arith, k .long, count-after);
+          numbered = λ n s at. numbered-after n s (at-cases (r .states) (d .state) n s at);
           first = at-longer (r .states) (d .state ∷ []) (fresh .count) fresh (k .first);
           now = at-end (r .states) (d .state .count) (d .state) (k .long ∙ sym count-after);
           chain = chain-longer number (r .states) (d .state ∷ []) 0 fresh (r .blocks) (k .base) (k .chain);
@@ -270,3 +283,8 @@ kept-all number small (flushing lent ∷ os) bytes r k =
 pub run-kept : (number : ℕ) → number < 2 ^ 32 → (os : List Operation) → EventBytes os → Kept number (runOf number os)
 unfolding runOf
 run-kept number small os bytes = kept-all number small os bytes (freshRun number) (kept-fresh number)
+
+-- the states of a run stand under their own numbers: the n-th is one in which n events were counted
+pub run-numbered : (number : ℕ) → number < 2 ^ 32 → (os : List Operation) → EventBytes os → (n : ℕ) (s : State)
+    → At (runOf number os .states) n s → s .count ≡ n
+run-numbered number small os bytes = run-kept number small os bytes .numbered
