@@ -13,11 +13,13 @@
 -- The operations and the delivery are any, so each of the three holds at every moment.
 --
 -- `runOf` and `groundOf` are folds of `stepped`, `flushedOf` and `readOf`, the definitions that the contracts of `manager::step`,
--- `manager::flush` and `reader::read` cite: what is said here is said of the code.
+-- `manager::flush` and `reader::read` cite: what is said here is said of the code. Their words stand in Pass. It is proved in Proof;
+-- RunLaws proves besides that state n of a run is one in which n events are counted (run-numbered).
 --
--- Assumed: the events' strings are bytes and the log number is below 2 ^ 32, as the types in the code say, and that each delivered
--- string is a block of the run or a stray. Without the last the statement is false: who can write a right check can write a block
--- with this log's number that no manager wrote. Nothing is assumed of how many events or blocks there are.
+-- Three things are assumed, and each is needed. The events' strings are bytes, as their type in the code says: a mask of 2 ^ 32 would
+-- be written as 0, and read back as nonsense. The log number is below 2 ^ 32, as its type says: otherwise the blocks carry another.
+-- And each string that is delivered is a block of the run or a stray: who can work out a right check can forge a block with this log's
+-- number that no manager wrote, and the reader will take it. Nothing is assumed of how many events or blocks there are.
 use Prim.Native.Nat.{ℕ, _^_, _<_}
 use mathlib.Core.Bool.{true}
 use mathlib.Core.List.{List, Sublistᴰ}

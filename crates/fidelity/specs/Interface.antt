@@ -2,14 +2,16 @@
 -- from the laws of the book; the other files of this crate name no rule, and open neither a verdict, nor `sound`, nor `effect`. A new
 -- event, rule, mode or record is paid for in the book and does not touch this crate.
 --
--- Of the book: script-form, records-no-status, records-length, script-range, script-fits, next-sound, next-count, ruling-held,
--- ruling-state, ruling-count, ruling-bytes; records-bytes-length, records-bytes-append.
--- Of the kinds: effect-count (no record but STATUS changes the count); fresh has count 0.
--- Of the layouts: event-fits (an event read from bytes has 32-bit numbers), record-read, block-length, block-intact, block-head,
--- checked-length, head-length; intact-other-length, intact-wrong-check.
--- Of the reader: its table, row by row (read-damaged, read-other-log, read-already, read-gap, read-in-turn), content-read,
--- content-follows, sound-whole, fresh-sound.
--- Of the manager: its definitions alone.
+-- Of the book: script-form, records-no-status, records-length, script-range, script-fits, next-count, next-sound, one-more-below,
+-- ruling-held, ruling-state, ruling-count, ruling-bytes; and records-bytes-append.
+-- Of the kinds: effect-count (no record but STATUS changes the count). Opened: `zeroed`, that fresh has count 0, and `partsOfRecord`
+-- at STATUS, that v is the event's number.
+-- Of the layouts: event-fits (an event that is read from bytes has 32-bit numbers); record-read, record-bytes-length; head-length,
+-- checked-length, block-intact, block-head; intact-length, intact-check, intact-other-length, intact-wrong-check. Opened: `blockBytes`,
+-- `checkedBytes`, `zerosBetween`.
+-- Of the reader: its table row by row (read-damaged, read-other-log, read-already, read-gap, read-in-turn), fresh-sound, read-sound,
+-- content-read. Opened: `taken`, `closed`, `reads`.
+-- Of the manager: no law. Opened: `stepOf`, `flushOf`, `bothSound`, `logSound`.
 -- Assumes nothing.
 use Prim.Native.Nat.{ℕ, _+_, _*_, _^_, _<_, _≤_}
 use mathlib.Core.Bool.{true}
