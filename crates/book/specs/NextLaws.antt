@@ -1,0 +1,37 @@
+-- State, the law of the book: every sound state steps to a sound state, while there is a number for the event.
+-- Assumes nothing.
+use Prim.Native.Nat.{_+_, _<_, _≤_}
+use mathlib.Core.Bool.{Bool, true}
+use mathlib.Core.List.{List}
+use mathlib.Core.Path.{_≡_, sym, ap, _∙_}
+use native.Mathlib.Omega.{arith}
+use Rattle.kinds.specs.State.{sound, withCount}
+use Rattle.kinds.specs.Effect.{oneMore}
+use Rattle.kinds.specs.declared.state.State.{State}
+use Rattle.kinds.specs.declared.event.Event.{Event}
+use Rattle.kinds.specs.declared.record.Record.{Record}
+use Rattle.rules.specs.Rules.{verdictOf}
+use Rattle.rules.specs.Script.{effects, next}
+use Rattle.book.specs.Shape.{timerOn, timerAfter}
+use Rattle.book.specs.ShapeLaws.{sound-timer, sound-armed, sound-from, shape-count}
+use Rattle.book.specs.TimerLaws.{one-more-below, effects-timer}
+use Rattle.book.specs.ScriptLaws.{records-no-status, records-shape, records-timer, next-form}
+
+pub next-sound : (s : State) (e : Event) → sound s ≡ true → s .count < 4_294_967_295 → sound (next s e) ≡ true
+next-sound s e ok below =
+    rw (next-form s e)
+    (sound-from (withCount after (oneMore (s .count)))
+    (shape-count after (oneMore (s .count)) ∙ records-shape s e ok)
+    (followed .0 ∙ ap (λ (on : Bool). timerAfter on records) (sound-timer s ok) ∙ sym (records-timer s e ok))
+    (rw (one-more-below (s .count) below) (followed .1)))
+  where
+    records : List Record
+    records = verdictOf s e .records
+
+    after : State
+    after = effects s records
+
+    followed : (timerOn (after .armed) ≡ timerAfter (timerOn (s .armed)) records)
+        × (after .armed ≤ s .count + 1)
+        × (after .count ≡ s .count)
+    followed = effects-timer records s (records-no-status s e) below (omega (arith, sound-armed s ok))
