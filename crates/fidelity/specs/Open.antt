@@ -1,0 +1,34 @@
+-- The open block: its records, as many as its head says, stand in its area, can be read back, and lead from the state at its
+-- count-before to the present state. Whole events only: the last record, if there is one, closes the last event.
+-- Assumes nothing.
+use Prim.Native.Nat.{ℕ, _*_}
+use mathlib.Core.Bool.{true}
+use mathlib.Core.List.{List, [], _∷_, _++_}
+use mathlib.Core.Logic.{_⊎_}
+use mathlib.Core.Path.{_≡_}
+use lib.ListN.{length, take}
+use Rattle.kinds.specs.ChoiceLaws.{every}
+use Rattle.kinds.specs.Record.{recordInRange}
+use Rattle.kinds.specs.declared.state.State.{State}
+use Rattle.kinds.specs.declared.status.Status.{Status}
+use Rattle.kinds.specs.declared.record.Record.{Record}
+use Rattle.layout.specs.declared.block.Head.{Head}
+use Rattle.book.specs.Passing.{vFits}
+use Rattle.book.specs.Held.{recordsBytes}
+use Rattle.reader.specs.declared.content.Content.{Content}
+use Rattle.fidelity.specs.Replay.{replay}
+
+-- no records, or the last is the STATUS of event n
+abbrev pub Ends : ℕ → List Record → Type 0
+Ends n rs = (rs ≡ []) ⊎ ((front : List Record) × (x : Status) × (rs ≡ front ++ Record.Status x n ∷ []))
+
+pub record Open (s : State) (h : Head) (area : List ℕ) (t : State) : Type 0 where
+  pub records : List Record
+  pub full : length area ≡ 496
+  pub stand : take (8 * length records) area ≡ recordsBytes records
+  pub used : h .used ≡ length records
+  pub range : every recordInRange records ≡ true
+  pub fit : every vFits records ≡ true
+  pub before : h .before ≡ s .count
+  pub leads : replay 0 s records ≡ Content.Right t
+  pub ends : Ends (t .count) records

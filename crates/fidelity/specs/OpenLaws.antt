@@ -1,0 +1,196 @@
+-- Laws of the open block: an empty one, one event more, and what it is when it is closed: a link of the chain.
+-- Assumes nothing.
+use Prim.Native.Nat.{ℕ, suc, _+_, _-_, _*_, _^_, _<_, _≤_}
+use mathlib.Core.Bool.{Bool, true}
+use mathlib.Core.List.{List, [], _∷_, _++_, append-assoc}
+use mathlib.Core.Logic.{inl, inr}
+use mathlib.Core.Path.{_≡_, refl, ap, sym, _∙_}
+use native.Mathlib.Nat.{add-zero}
+use native.Mathlib.Omega.{arith}
+use borrow.Author.Tests.{le-leb}
+use lib.ListN.{length, take, drop, length-append, length-replicate, take-append-drop}
+use lib.Seq.{take-at, take-all, drop-append-add, length-paste, take-paste, paste}
+use Rattle.frame_check.specs.Check.{checkOf}
+use Rattle.kinds.specs.ChoiceLaws.{every, and-left, and-right}
+use Rattle.kinds.specs.Record.{recordInRange, partsOfRecord}
+use Rattle.kinds.specs.declared.state.State.{State}
+use Rattle.kinds.specs.declared.status.Status.{Status}
+use Rattle.kinds.specs.declared.record.Record.{Record}
+use Rattle.kinds.specs.declared.record.Reading.{Reading}
+use Rattle.layout.specs.Bytes.{two}
+use Rattle.layout.specs.Block.{headOf, usedInRange, headBytes, checkedBytes, blockBytes}
+use Rattle.layout.specs.BlockLaws.{head-length, checked-length, block-intact, block-head}
+use Rattle.layout.specs.Record.{readRecord}
+use Rattle.layout.specs.Zeros.{zerosBetween}
+use Rattle.layout.specs.declared.block.Head.{Head}
+use Rattle.draft.specs.declared.Draft.{Draft}
+use Rattle.book.specs.Passing.{vFits}
+use Rattle.book.specs.Held.{recordsBytes}
+use Rattle.book.specs.HeldLaws.{records-bytes-append}
+use Rattle.manager.specs.Log.{blankArea, areaWith}
+use Rattle.reader.specs.Content.{place, reads, contentOf}
+use Rattle.reader.specs.ContentLaws.{content-read}
+use Rattle.reader.specs.declared.content.Content.{Content}
+use Rattle.fidelity.specs.Pass.{lastIn, eventNumber}
+use Rattle.fidelity.specs.Interface.{whole, Ruled}
+use Rattle.fidelity.specs.Replay.{StandIn}
+use Rattle.fidelity.specs.ReplayLaws.{reads-replay, replay-append, replay-event, stand-in}
+use Rattle.fidelity.specs.Chain.{Link}
+use Rattle.fidelity.specs.Open.{Ends, Open}
+
+every-append : (p : Record → Bool) (xs ys : List Record) → every p xs ≡ true → every p ys ≡ true → every p (xs ++ ys) ≡ true
+every-append p [] ys all more = more
+every-append p (x ∷ xs) ys all more =
+    rw (and-left (p x) (every p xs) all, every-append p xs ys (and-right (p x) (every p xs) all) more)
+
+pub open-blank : (s : State) (h : Head) → h .used ≡ 0 → h .before ≡ s .count → Open s h blankArea s
+open-blank s h used before =
+    record {
+      records = [];
+      full = length-replicate {A = ℕ} 496 0;
+      stand = refl;
+      used = used;
+      range = refl;
+      fit = refl;
+      before = before;
+      leads = refl;
+      ends = inl refl;
+    }
+
+-- One event more -------------------------------------------------------------------------------------------------------------
+
+-- n bytes more behind m, where the string has both
+stand-more : (area bytes xs ys : List ℕ) (m n : ℕ) → m ≤ length area → n ≤ length bytes → take m area ≡ xs → take n bytes ≡ ys
+    → take (m + n) (paste area m bytes n) ≡ xs ++ ys
+stand-more area bytes xs ys m n room long first second = rw (take-paste area m bytes n room long, first, second)
+
+module _ (s t : State) (h h′ : Head) (area : List ℕ) (d : Draft) (o : Open s h area t) (r : Ruled t d)
+    (room : h .used + d .count ≤ 62) (used : h′ .used ≡ h .used + d .count) (before : h′ .before ≡ h .before) where
+  abbrev more : List Record
+  more = whole t (r .actions) (r .status)
+
+  more-length : length more ≡ length (r .actions) + 1
+  more-length = length-append (r .actions) (Record.Status (r .status) (t .count + 1) ∷ [])
+
+  all-length : length (o .records ++ more) ≡ h .used + d .count
+  all-length = length-append (o .records) more ∙ omega (arith, o .used, r .count)
+
+  within : (8 * h .used + 8 * d .count ≤ length area) × (8 * d .count ≤ length (d .bytes))
+  within = omega (arith, o .full, r .eighty, r .count, more-length, r .few)
+
+  all-bytes : 8 * length (o .records ++ more) ≡ 8 * h .used + 8 * d .count
+  all-bytes = omega (arith, all-length)
+
+  stand-first : take (8 * h .used) area ≡ recordsBytes (o .records)
+  stand-first = ap (λ (n : ℕ). take (8 * n) area) (o .used) ∙ o .stand
+
+  stand-all : take (8 * length (o .records ++ more)) (areaWith area (h .used) d) ≡ recordsBytes (o .records ++ more)
+  stand-all =
+      ap (λ (n : ℕ). take n (areaWith area (h .used) d)) all-bytes
+      ∙ stand-more area (d .bytes) (recordsBytes (o .records)) (recordsBytes more) (8 * h .used) (8 * d .count)
+      (omega (arith, within .0)) (within .1) stand-first (r .bytes)
+      ∙ sym (records-bytes-append (o .records) more)
+
+  number-after : d .state .count ≡ t .count + 1
+  number-after = ap (λ (u : State). u .count) (r .state) ∙ r .number
+
+  ends-more : o .records ++ more ≡ (o .records ++ r .actions) ++ Record.Status (r .status) (d .state .count) ∷ []
+  ends-more =
+      rw number-after (sym (append-assoc (o .records) (r .actions) (Record.Status (r .status) (t .count + 1) ∷ [])))
+
+  pub open-more : Open s h′ (areaWith area (h .used) d) (d .state)
+  open-more =
+      record {
+        records = o .records ++ more;
+        full = length-paste area (8 * h .used) (d .bytes) (8 * d .count) (within .0) (within .1) ∙ o .full;
+        stand = stand-all;
+        used = used ∙ sym all-length;
+        range = every-append recordInRange (o .records) more (o .range) (r .range);
+        fit = every-append vFits (o .records) more (o .fit) (r .fit);
+        before = before ∙ o .before;
+        leads =
+            replay-append (o .records) more 0 s t (o .leads)
+            ∙ replay-event (r .actions) 0 t (r .status) (t .count + 1) (r .quiet) (omega (arith, r .few)) refl (r .sound)
+            ∙ ap Content.Right (sym (r .state));
+        ends = inr (o .records ++ r .actions, r .status, ends-more);
+      }
+
+-- The block is closed ----------------------------------------------------------------------------------------------------------
+
+regrouped : (a b c d : List ℕ) → (a ++ (b ++ c)) ++ d ≡ (a ++ b) ++ (c ++ d)
+regrouped a b c d = simp append-assoc
+
+drop-behind : (xs ys : List ℕ) (k n : ℕ) → length xs ≡ k → drop (k + n) (xs ++ ys) ≡ drop n ys
+drop-behind xs ys k n e = rw (← e) (drop-append-add xs ys n)
+
+stand-last : (b : List ℕ) (front : List Record) (r : Record) (at : ℕ) → StandIn b at (front ++ r ∷ [])
+    → readRecord b (place (at + length front)) ≡ Reading.Right r
+stand-last b [] r at stand = rw (add-zero at) (stand .0)
+stand-last b (x ∷ front) r at stand =
+    let on : at + suc (length front) ≡ at + 1 + length front = omega arith in
+    rw on (stand-last b front r (at + 1) (stand .1))
+
+status-number : (x : Status) (n : ℕ) → partsOfRecord (Record.Status x n) .v ≡ n
+unfolding partsOfRecord
+status-number x n = refl
+
+module _ (s t : State) (h : Head) (area : List ℕ) (o : Open s h area t) where
+  records-in : blockBytes h area
+      ≡ (headBytes h ++ recordsBytes (o .records)) ++ (drop (8 * length (o .records)) area ++ two (checkOf (checkedBytes h area)))
+  unfolding blockBytes checkedBytes
+  records-in =
+      ap (λ (x : List ℕ). (headBytes h ++ x) ++ two (checkOf (headBytes h ++ area)))
+      (sym (take-append-drop (8 * length (o .records)) area) ∙ ap (λ (x : List ℕ). x ++ drop (8 * length (o .records)) area) (o .stand))
+      ∙ regrouped (headBytes h) (recordsBytes (o .records)) (drop (8 * length (o .records)) area) (two (checkOf (headBytes h ++ area)))
+
+  stand-closed : StandIn (blockBytes h area) 0 (o .records)
+  stand-closed =
+      stand-in (blockBytes h area) (headBytes h) (drop (8 * length (o .records)) area ++ two (checkOf (checkedBytes h area)))
+      (o .records) 0 records-in (head-length h) (o .range) (o .fit)
+
+  zeros-closed : zerosBetween area (8 * h .used) 496 ≡ true → zerosBetween (blockBytes h area) (place (h .used)) 510 ≡ true
+  unfolding zerosBetween blockBytes checkedBytes
+  zeros-closed zero =
+      rw (
+        take-at (headBytes h ++ area) (two (checkOf (headBytes h ++ area))) 510 (unfold checkedBytes in checked-length h area (o .full)),
+        drop-behind (headBytes h) area 14 (8 * h .used) (head-length h),
+      )
+      (rw (take-all 496 area (omega (arith, o .full))) at zero)
+
+  last-read : (h .used ≡ 0 → ⊥) → Ends (t .count) (o .records)
+      → eventNumber (readRecord (blockBytes h area) (14 + 8 * (h .used - 1))) ≡ t .count
+  last-read some (inl none) = absurd (some (o .used ∙ ap length none))
+  last-read some (inr e) =
+      let front : List Record = e .0 in
+      let stand : StandIn (blockBytes h area) 0 (front ++ Record.Status (e .1) (t .count) ∷ []) = rw (e .2) at stand-closed in
+      let long : length (o .records) ≡ length front + 1 = ap length (e .2) ∙ length-append front (Record.Status (e .1) (t .count) ∷ []) in
+      let here : h .used - 1 ≡ 0 + length front = omega (arith, o .used) in
+      rw (here, stand-last (blockBytes h area) front (Record.Status (e .1) (t .count)) 0 stand) (status-number (e .1) (t .count))
+
+  module _ (small : h .number < 2 ^ 32) (some : h .used ≡ 0 → ⊥) (room : h .used ≤ 62) (zero : zerosBetween area (8 * h .used) 496 ≡ true)
+      (blocks : h .block ≤ h .before) (counts : h .before < t .count) (most : t .count ≤ 4_294_967_295) where
+    head-closed : headOf (blockBytes h area) ≡ h
+    head-closed = block-head h area (o .full) small (omega arith) (omega arith) (omega arith)
+
+    used-closed : usedInRange (h .used) ≡ true
+    used-closed = rw (le-leb 1 (h .used) (omega arith), le-leb (h .used) 62 room)
+
+    content-closed : contentOf s (blockBytes h area) ≡ Content.Right t
+    content-closed =
+        content-read s (blockBytes h area) (rw head-closed used-closed) (rw head-closed (o .before)) (rw head-closed (λ e. omega arith))
+        (rw head-closed (zeros-closed zero))
+        ∙ ap (λ (n : ℕ). reads (blockBytes h area) n 0 0 s) (ap (λ (x : Head). x .used) head-closed ∙ o .used)
+        ∙ reads-replay (blockBytes h area) (o .records) 0 0 s t stand-closed (o .leads)
+
+    pub closed-link : Link (h .number) (h .block) s (blockBytes h area) t
+    unfolding lastIn
+    closed-link =
+        record {
+          whole = block-intact h area (o .full);
+          log = ap (λ (x : Head). x .number) head-closed;
+          place = ap (λ (x : Head). x .block) head-closed;
+          earlier = rw head-closed (λ e. omega arith);
+          content = content-closed;
+          last =
+              ap (λ (x : Head). eventNumber (readRecord (blockBytes h area) (14 + 8 * (x .used - 1)))) head-closed ∙ last-read some (o .ends);
+        }

@@ -1,0 +1,290 @@
+-- What a manager that began fresh keeps, whatever it is asked: its blocks are a chain from the fresh state to the state at which the
+-- open block began, and the open block's records lead from there to its present state. Each of these states is in its history.
+-- Assumes nothing.
+use Prim.Native.Nat.{ℕ, zero, suc, _+_, _*_, _^_, _<_, _≤_}
+use mathlib.Core.Bool.{Bool, true, false, not, _&&_}
+use mathlib.Core.List.{List, [], _∷_, _++_}
+use mathlib.Core.Logic.{_⊎_, inl, inr}
+use mathlib.Core.Path.{_≡_, refl, ap, sym, _∙_}
+use native.Mathlib.Nat.{zero-add}
+use native.Mathlib.Omega.{arith}
+use borrow.Author.Tests.{leb-true, leb-false, eqb-false, ne-eqb, not-false}
+use lib.ListN.{length, length-append}
+use lib.Dec.{eqb, leb}
+use Rattle.kinds.specs.Choice.{if_then_else_}
+use Rattle.kinds.specs.ChoiceLaws.{and-left, and-right}
+use Rattle.kinds.specs.State.{sound, fresh, zeroed}
+use Rattle.kinds.specs.Event.{partsOfEvent}
+use Rattle.kinds.specs.declared.state.State.{State}
+use Rattle.kinds.specs.declared.answer.Answer.{Answer}
+use Rattle.kinds.specs.declared.event.Event.{Event}
+use Rattle.kinds.specs.declared.event.FoundEvent.{FoundEvent}
+use Rattle.layout.specs.Bytes.{AreBytes}
+use Rattle.layout.specs.Block.{blockBytes, lentWhole}
+use Rattle.layout.specs.Event.{readEvent}
+use Rattle.layout.specs.EventLaws.{event-fits}
+use Rattle.layout.specs.Zeros.{zerosBetween}
+use Rattle.layout.specs.declared.block.Head.{Head}
+use Rattle.draft.specs.declared.Draft.{Draft}
+use Rattle.rules.specs.Ruling.{rulingOf}
+use Rattle.manager.specs.Log.{same, logSound, blankArea, fits, areaWith, headWith, headNext}
+use Rattle.manager.specs.Manager.{LAST, freshHead, bothSound, Outcome, kept, added, turned, logged, heardEvent, stepOf, flushed, flushOf, stepped, flushedOf}
+use Rattle.reader.specs.ContentLaws.{picked}
+use Rattle.fidelity.specs.Pass.{Operation, stepping, flushing, EventBytes, Run, freshRun, afterStep, afterFlush, afterAll, runOf, At}
+use Rattle.fidelity.specs.Interface.{whole, Ruled, ruled}
+use Rattle.fidelity.specs.Chain.{Link, Chain}
+use Rattle.fidelity.specs.ChainLaws.{at-longer, at-end, at-cases, chain-longer, chain-more, link-at}
+use Rattle.fidelity.specs.Open.{Open}
+use Rattle.fidelity.specs.OpenLaws.{open-blank, open-more, closed-link}
+
+-- What the manager's own test tells --------------------------------------------------------------------------------------------
+
+record Tested (s : State) (h : Head) (area : List ℕ) : Type 0 where
+  own : sound s ≡ true
+  room : h .used ≤ 62
+  zero : zerosBetween area (8 * h .used) 496 ≡ true
+  blocks : h .block ≤ h .before
+  counts : h .before ≤ s .count
+  agree : same (eqb (h .used) 0) (eqb (h .before) (s .count)) ≡ true
+
+tested : (s : State) (h : Head) (area : List ℕ) → bothSound s h area ≡ true → Tested s h area
+unfolding bothSound logSound
+tested s h area both =
+    let used : Bool = leb (h .used) 62 in
+    let zero : Bool = zerosBetween area (8 * h .used) 496 in
+    let blocks : Bool = leb (h .block) (h .before) in
+    let counts : Bool = leb (h .before) (s .count) in
+    let agree : Bool = same (eqb (h .used) 0) (eqb (h .before) (s .count)) in
+    let log = and-right (sound s) (used && zero && blocks && counts && agree) both in
+    let four = and-left (used && zero && blocks && counts) agree log in
+    let three = and-left (used && zero && blocks) counts four in
+    let two = and-left (used && zero) blocks three in
+    record {
+      own = and-left (sound s) (used && zero && blocks && counts && agree) both;
+      room = leb-true (h .used) 62 (and-left used zero two);
+      zero = and-right used zero two;
+      blocks = leb-true (h .block) (h .before) (and-right (used && zero) blocks three);
+      counts = leb-true (h .before) (s .count) (and-right (used && zero && blocks) counts four);
+      agree = and-right (used && zero && blocks && counts) agree log;
+    }
+
+same-false : (b : Bool) → same false b ≡ true → b ≡ false
+same-false true e = sym e
+same-false false e = refl
+
+-- a log that holds records was begun before the count that it has now
+tested-before : (s : State) (h : Head) (area : List ℕ) → Tested s h area → (h .used ≡ 0 → ⊥) → h .before < s .count
+tested-before s h area k some =
+    let apart : h .before ≡ s .count → ⊥ = eqb-false (h .before) (s .count) (same-false _ (rw (ne-eqb (h .used) 0 some) at (k .agree))) in
+    let low : h .before ≤ s .count = k .counts in
+    omega arith
+
+-- What is kept -----------------------------------------------------------------------------------------------------------------
+
+pub record Kept (number : ℕ) (r : Run) : Type 0 where
+  pub base : State
+  pub opened : Open base (r .manager .head) (r .manager .records) (r .manager .state)
+  pub log : r .manager .head .number ≡ number
+  pub blocks : r .manager .head .block ≡ length (r .blocks)
+  pub most : r .manager .state .count ≤ 4_294_967_295
+  pub long : length (r .states) ≡ r .manager .state .count + 1
+  pub numbered : (n : ℕ) (s : State) → At (r .states) n s → s .count ≡ n
+  pub first : At (r .states) (fresh .count) fresh
+  pub now : At (r .states) (r .manager .state .count) (r .manager .state)
+  pub chain : Chain number (r .states) 0 fresh (r .blocks) base
+
+fresh-numbered : (n : ℕ) (s : State) → At (fresh ∷ []) n s → s .count ≡ n
+unfolding zeroed
+fresh-numbered zero s e = sym (ap (λ (t : State). t .count) e)
+fresh-numbered (suc n) s e = absurd e
+
+kept-fresh : (number : ℕ) → Kept number (freshRun number)
+unfolding zeroed
+kept-fresh number =
+    record {
+      base = fresh;
+      opened = open-blank fresh (freshHead number) refl refl;
+      log = refl;
+      blocks = refl;
+      most = omega arith;
+      long = refl;
+      numbered = fresh-numbered;
+      first = refl;
+      now = refl;
+      chain = refl;
+    }
+
+-- the manager's present state, and its open block
+abbrev now : Run → State
+now r = r .manager .state
+
+abbrev head : Run → Head
+head r = r .manager .head
+
+abbrev area : Run → List ℕ
+area r = r .manager .records
+
+module _ (number : ℕ) (small : number < 2 ^ 32) (r : Run) (k : Kept number r) where
+  -- the open block is closed
+  abbrev closedRun : Run
+  closedRun =
+      record {
+        manager = record { state = now r; head = headNext (head r) 0 (now r .count); records = blankArea };
+        states = r .states;
+        blocks = r .blocks ++ blockBytes (head r) (area r) ∷ [];
+      }
+
+  closed-block : Tested (now r) (head r) (area r) → (head r .used ≡ 0 → ⊥) → Link number (0 + length (r .blocks)) (k .base) (blockBytes (head r) (area r)) (now r)
+  closed-block t some =
+      link-at number (0 + length (r .blocks)) (k .log) (k .blocks ∙ sym (zero-add (length (r .blocks))))
+      (closed-link (k .base) (now r) (head r) (area r) (k .opened) (rw (k .log) small) some (t .room) (t .zero) (t .blocks)
+      (tested-before (now r) (head r) (area r) t some) (k .most))
+
+  kept-closed : Tested (now r) (head r) (area r) → (head r .used ≡ 0 → ⊥) → Kept number closedRun
+  kept-closed t some =
+      record {
+        base = now r;
+        opened = open-blank (now r) (headNext (head r) 0 (now r .count)) refl refl;
+        log = k .log;
+        blocks = ap (λ (n : ℕ). n + 1) (k .blocks) ∙ sym (length-append (r .blocks) (blockBytes (head r) (area r) ∷ []));
+        most = k .most;
+        long = k .long;
+        numbered = k .numbered;
+        first = k .first;
+        now = k .now;
+        chain =
+            chain-more number (r .states) 0 fresh (r .blocks) (k .base) (now r) (blockBytes (head r) (area r)) (k .chain) (closed-block t some) (k .now);
+      }
+
+  -- an event's records go into the open block
+  module _ (d : Draft) (h : Head) (e : Ruled (now r) d) (below : now r .count < 4_294_967_295) (room : head r .used + d .count ≤ 62)
+      (log : h .number ≡ head r .number) (block : h .block ≡ head r .block) (used : h .used ≡ head r .used + d .count)
+      (before : h .before ≡ head r .before) where
+    abbrev addedRun : Run
+    addedRun =
+        record {
+          manager = record { state = d .state; head = h; records = areaWith (area r) (head r .used) d };
+          states = r .states ++ d .state ∷ [];
+          blocks = r .blocks;
+        }
+
+    count-after : d .state .count ≡ now r .count + 1
+    count-after = ap (λ (u : State). u .count) (e .state) ∙ e .number
+
+    numbered-after : (n : ℕ) (s : State) → At (r .states) n s ⊎ ((n ≡ length (r .states)) × (d .state ≡ s)) → s .count ≡ n
+    numbered-after n s (inl before) = k .numbered n s before
+    numbered-after n s (inr last) = sym (ap (λ (u : State). u .count) (last .1)) ∙ count-after ∙ sym (k .long) ∙ sym (last .0)
+
+    kept-added : Kept number addedRun
+    kept-added =
+        record {
+          base = k .base;
+          opened = open-more (k .base) (now r) (head r) h (area r) d (k .opened) e room used before;
+          log = log ∙ k .log;
+          blocks = block ∙ k .blocks;
+          most = omega (arith, count-after);
+          long = length-append (r .states) (d .state ∷ []) ∙ omega (arith, k .long, count-after);
+          numbered = λ n s at. numbered-after n s (at-cases (r .states) (d .state) n s at);
+          first = at-longer (r .states) (d .state ∷ []) (fresh .count) fresh (k .first);
+          now = at-end (r .states) (d .state .count) (d .state) (k .long ∙ sym count-after);
+          chain = chain-longer number (r .states) (d .state ∷ []) 0 fresh (r .blocks) (k .base) (k .chain);
+        }
+
+  -- A flush --------------------------------------------------------------------------------------------------------------------
+
+  kept-flush : (lent : List ℕ) → Kept number (afterFlush r (flushedOf (r .manager) lent))
+  unfolding flushOf
+  kept-flush lent =
+      picked P (not (lentWhole lent)) (kept (now r) (head r) (area r) lent Answer.BadBuf) unsound (λ _. k)
+      (λ _. picked P (not (bothSound (now r) (head r) (area r))) (kept (now r) (head r) (area r) lent Answer.BadState) empty (λ _. k)
+      (λ own. picked P (eqb (head r .used) 0) (kept (now r) (head r) (area r) lent Answer.Empty) (flushed (now r) (head r) (area r) lent) (λ _. k)
+      (λ some. kept-closed (tested (now r) (head r) (area r) (not-false (bothSound (now r) (head r) (area r)) own)) (eqb-false (head r .used) 0 some))))
+    where
+      P : Outcome → Type 0
+      P o = Kept number (afterFlush r o)
+
+      empty : Outcome
+      empty = if eqb (head r .used) 0 then kept (now r) (head r) (area r) lent Answer.Empty else flushed (now r) (head r) (area r) lent
+
+      unsound : Outcome
+      unsound = if not (bothSound (now r) (head r) (area r)) then kept (now r) (head r) (area r) lent Answer.BadState else empty
+
+module _ (number : ℕ) (small : number < 2 ^ 32) (r : Run) (k : Kept number r) where
+  -- An event -------------------------------------------------------------------------------------------------------------------
+
+  kept-logged : (lent : List ℕ) (e : Event) → Tested (now r) (head r) (area r) → Ruled (now r) (rulingOf (now r) e .draft)
+      → now r .count < 4_294_967_295 → Kept number (afterStep r (logged (now r) (head r) (area r) lent (rulingOf (now r) e)))
+  kept-logged lent e t ruling below =
+      picked (λ (o : Outcome). Kept number (afterStep r o)) (fits (head r) draft) (added (now r) (head r) (area r) lent (rulingOf (now r) e))
+      (turned (now r) (head r) (area r) lent (rulingOf (now r) e))
+      (λ room. kept-added number small r k draft (headWith (head r) draft) ruling below (leb-true (head r .used + draft .count) 62 room) refl refl refl refl)
+      (λ full. kept-turned (leb-false (head r .used + draft .count) 62 full))
+    where
+      draft : Draft
+      draft = rulingOf (now r) e .draft
+
+      few : draft .count ≤ 10
+      few =
+          omega (
+            arith,
+            ruling .count,
+            length-append (ruling .actions) (whole (now r) [] (ruling .status)),
+            ruling .few,
+          )
+
+      kept-turned : 62 < head r .used + draft .count → Kept number (afterStep r (turned (now r) (head r) (area r) lent (rulingOf (now r) e)))
+      kept-turned full =
+          let some : head r .used ≡ 0 → ⊥ = λ none. omega (arith, few) in
+          kept-added number small (closedRun number small r k) (kept-closed number small r k t some) draft (headNext (head r) (draft .count) (now r .count)) ruling below
+          (omega (arith, few)) refl refl (sym (zero-add (draft .count))) refl
+
+  kept-heard : (event lent : List ℕ) → AreBytes event → (found : FoundEvent) → readEvent event ≡ found
+      → Kept number (afterStep r (heardEvent (now r) (head r) (area r) lent found))
+  kept-heard event lent bytes FoundEvent.Unknown read = k
+  kept-heard event lent bytes (FoundEvent.Found e) read =
+      picked P (not (bothSound (now r) (head r) (area r))) (kept (now r) (head r) (area r) lent Answer.BadState) sounded (λ _. k)
+      (λ own. picked P (eqb (now r .count) LAST) (kept (now r) (head r) (area r) lent Answer.Full) ruling (λ _. k)
+      (λ below. taken (tested (now r) (head r) (area r) (not-false (bothSound (now r) (head r) (area r)) own))
+      (eqb-false (now r .count) LAST below)))
+    where
+      P : Outcome → Type 0
+      P o = Kept number (afterStep r o)
+
+      ruling : Outcome
+      ruling = logged (now r) (head r) (area r) lent (rulingOf (now r) e)
+
+      sounded : Outcome
+      sounded = if eqb (now r .count) LAST then kept (now r) (head r) (area r) lent Answer.Full else ruling
+
+      taken : Tested (now r) (head r) (area r) → (now r .count ≡ 4_294_967_295 → ⊥) → P ruling
+      taken t other =
+          let below : now r .count < 4_294_967_295 = omega (arith, k .most) in
+          let fit : (partsOfEvent e .a < 2 ^ 32) × (partsOfEvent e .b < 2 ^ 32) = event-fits event e bytes read in
+          kept-logged lent e t (ruled (now r) e (t .own) below (fit .0) (fit .1)) below
+
+  kept-step : (event lent : List ℕ) → AreBytes event → Kept number (afterStep r (stepped (r .manager) event lent))
+  unfolding stepOf
+  kept-step event lent bytes =
+      picked (λ (o : Outcome). Kept number (afterStep r o)) (not (lentWhole lent)) (kept (now r) (head r) (area r) lent Answer.BadBuf)
+      (heardEvent (now r) (head r) (area r) lent (readEvent event))
+      (λ _. k)
+      (λ _. kept-heard event lent bytes (readEvent event) refl)
+
+-- Any operations ---------------------------------------------------------------------------------------------------------------
+
+kept-all : (number : ℕ) → number < 2 ^ 32 → (os : List Operation) → EventBytes os → (r : Run) → Kept number r
+    → Kept number (afterAll r os)
+kept-all number small [] bytes r k = k
+kept-all number small (stepping event lent ∷ os) bytes r k =
+    kept-all number small os (bytes .1) (afterStep r (stepped (r .manager) event lent)) (kept-step number small r k event lent (bytes .0))
+kept-all number small (flushing lent ∷ os) bytes r k =
+    kept-all number small os bytes (afterFlush r (flushedOf (r .manager) lent)) (kept-flush number small r k lent)
+
+pub run-kept : (number : ℕ) → number < 2 ^ 32 → (os : List Operation) → EventBytes os → Kept number (runOf number os)
+unfolding runOf
+run-kept number small os bytes = kept-all number small os bytes (freshRun number) (kept-fresh number)
+
+-- the states of a run stand under their own numbers: the n-th is one in which n events were counted
+pub run-numbered : (number : ℕ) → number < 2 ^ 32 → (os : List Operation) → EventBytes os → (n : ℕ) (s : State)
+    → At (runOf number os .states) n s → s .count ≡ n
+run-numbered number small os bytes = run-kept number small os bytes .numbered
