@@ -13,3 +13,4 @@ pub mod RangeLaws
 pub mod Held
 pub mod HeldLaws
 pub mod RulingLaws
+pub mod Book

@@ -1,11 +1,11 @@
 -- State, the law of the book: every sound state steps to a sound state, while there is a number for the event.
 -- Assumes nothing.
-use Prim.Native.Nat.{_+_, _<_, _≤_}
+use Prim.Native.Nat.{ℕ, _+_, _<_, _≤_}
 use mathlib.Core.Bool.{Bool, true}
 use mathlib.Core.List.{List}
-use mathlib.Core.Path.{_≡_, sym, ap, _∙_}
+use mathlib.Core.Path.{_≡_, refl, sym, ap, _∙_}
 use native.Mathlib.Omega.{arith}
-use Rattle.kinds.specs.State.{sound, withCount}
+use Rattle.kinds.specs.State.{calibrationSound, physicsSound, tooSound, bootSound, sound, zeroed, fresh, withCount}
 use Rattle.kinds.specs.Effect.{oneMore}
 use Rattle.kinds.specs.declared.state.State.{State}
 use Rattle.kinds.specs.declared.event.Event.{Event}
@@ -35,3 +35,12 @@ next-sound s e ok below =
         × (after .armed ≤ s .count + 1)
         × (after .count ≡ s .count)
     followed = effects-timer records s (records-no-status s e) below (omega (arith, sound-armed s ok))
+
+-- the first state of all
+pub fresh-sound : sound fresh ≡ true
+unfolding sound calibrationSound physicsSound tooSound bootSound zeroed
+fresh-sound = refl
+
+pub fresh-count : fresh .count ≡ 0
+unfolding zeroed
+fresh-count = refl

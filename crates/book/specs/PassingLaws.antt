@@ -1,4 +1,4 @@
--- Computed tests of the rules: each event in all shapes, once for all. What they test is `Passes`; the laws of the book are read off it.
+-- Computed tests of the rules: each event in all shapes, once for all. What they test is `passes`; the laws of the book are read off it.
 -- Assumes nothing.
 use Prim.Native.Nat.{ℕ}
 use mathlib.Core.Bool.{true}

@@ -12,3 +12,4 @@ pub mod OpenLaws
 pub mod RunLaws
 pub mod GroundLaws
 pub mod Proof
+pub mod Table

@@ -1,2 +1,1 @@
-pub mod SoundLaws
 pub mod Outcomes
