@@ -12,4 +12,3 @@ pub mod OpenLaws
 pub mod RunLaws
 pub mod GroundLaws
 pub mod Proof
-pub mod Table
