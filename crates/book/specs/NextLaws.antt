@@ -1,4 +1,4 @@
--- State, the law of the book: every sound state steps to a sound state, while there is a number for the event.
+-- State, the law of the book: soundness is kept by every event, while there is a number for it.
 -- Assumes nothing.
 use Prim.Native.Nat.{ℕ, _+_, _<_, _≤_}
 use mathlib.Core.Bool.{Bool, true}

@@ -91,7 +91,8 @@ At [] n x = ⊥
 At (y ∷ ys) zero x = y ≡ x
 At (y ∷ ys) (suc n) x = At ys n x
 
--- the number of the last event in a block: v of its last record, the STATUS that closes that event
+-- the number of the last event in a block: v of its last record, which in a block of a run is the STATUS that closes that event
+-- (`last` in Chain)
 abbrev pub eventNumber : Reading → ℕ
 eventNumber (Reading.Right r) = partsOfRecord r .v
 eventNumber Reading.WrongCode = 0

@@ -36,7 +36,8 @@ use kinds::Record;
 use kinds::State;
 use kinds::Status;
 
-// What the book says of an event in a state: its status, the state after it, and all of its records, the closing STATUS too.
+// What the book says of an event in a state: its status, the state after it, and its records, the closing STATUS last. In a sound
+// state whose count is below its end they all have room.
 pub fn ruled(state: State, event: Event) -> Ruling
     ensures { λ r. ⌜ r ≡ rulingOf state event ⌝ }
 {
