@@ -4,7 +4,9 @@ mod numeral;
 mod put;
 
 pub use group::group_end;
+pub use numeral::NO_DIGIT;
 pub use numeral::Parsed;
+pub use numeral::digit;
 pub use numeral::parse;
 pub use put::byte;
 pub use put::flush;

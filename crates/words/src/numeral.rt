@@ -11,7 +11,7 @@ pub enum Parsed {
 const ABOVE: u64 = 4_294_967_296;
 
 // No digit of any base.
-const NO_DIGIT: u64 = 16;
+pub const NO_DIGIT: u64 = 16;
 
 pub fn parse(word: &[u8]) -> Parsed {
     if word.len() < 3 {
@@ -47,7 +47,7 @@ fn digits(word: &[u8], hex: bool) -> Parsed {
 }
 
 // The number that a byte stands for as a digit, and 16 where it is none.
-fn digit(b: u8, hex: bool) -> u64
+pub fn digit(b: u8, hex: bool) -> u64
     ensures { λ r. ⌜ r ≤ 16 ⌝ }
 {
     if b < b'0' {
