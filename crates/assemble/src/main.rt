@@ -1,0 +1,137 @@
+// A text of events, one to a line, made into their 12 bytes (Events). A line that cannot be read is told on standard error.
+mod line;
+mod names;
+
+use libc::STDERR_FILENO;
+use libc::STDIN_FILENO;
+use libc::STDOUT_FILENO;
+use line::Expected;
+use line::Kind;
+
+const PIECE: usize = 4096;
+
+// How much of the line has come, whether it is too long, its number, and how much of the output buffer is taken.
+struct Text {
+    length: usize,
+    long: bool,
+    number: u64,
+    at: usize,
+    more: bool,
+}
+
+fn main() {
+    let mut out = [0u8; 4096];
+    let mut space = [0u8; 256];
+    let text = all(&mut space, &mut out);
+    let text = finish(text, &mut space, &mut out);
+    words::flush(STDOUT_FILENO, &out, text.at);
+}
+
+// A proved loop has to end, and nothing says that the input does: the turns are counted down from a number that no run uses up.
+fn all(space: &mut [u8; 256], out: &mut [u8; 4096]) -> Text {
+    let mut text = Text {
+        length: 0,
+        long: false,
+        number: 1,
+        at: 0,
+        more: true,
+    };
+    let mut turns = u64::MAX;
+    while turns > 0 {
+        text = turn(text, space, out);
+        if !text.more {
+            return text;
+        }
+        turns -= 1;
+    }
+    text
+}
+
+// Reads a piece and takes its bytes. A piece that is not full is the last.
+fn turn(text: Text, space: &mut [u8; 256], out: &mut [u8; 4096]) -> Text {
+    let mut piece = io::buffer();
+    let n = io::read_full(STDIN_FILENO, &mut piece);
+    let mut after = take_all(text, &piece[..n], space, out);
+    after.more = n == PIECE;
+    after
+}
+
+fn take_all(first: Text, piece: &[u8], space: &mut [u8; 256], out: &mut [u8; 4096]) -> Text {
+    let mut text = first;
+    let mut i: usize = 0;
+    while i < piece.len() {
+        text = take(text, piece[i], space, out);
+        i += 1;
+    }
+    text
+}
+
+fn take(text: Text, b: u8, space: &mut [u8; 256], out: &mut [u8; 4096]) -> Text {
+    if b == b'\n' {
+        return finish(text, space, out);
+    }
+    let mut after = text;
+    let length = text.length;
+    if length < 256 {
+        space[length] = b;
+        after.length = length + 1;
+    } else {
+        after.long = true;
+    }
+    after
+}
+
+// The end of a line: its event is written, or what is wrong is told.
+fn finish(text: Text, space: &mut [u8; 256], out: &mut [u8; 4096]) -> Text {
+    let mut after = text;
+    if text.long {
+        tell(text.number, Expected::Short);
+    } else {
+        after.at = write(space, text.length, text.number, out, text.at);
+    }
+    after.length = 0;
+    after.long = false;
+    after.number = std::num::wrapping_add_u64(text.number, 1);
+    after
+}
+
+fn write(space: &[u8], length: usize, number: u64, out: &mut [u8; 4096], at: usize) -> usize {
+    let read = line::read(space, length);
+    let kind = read.kind;
+    let bytes = read.bytes;
+    match kind {
+        Kind::Nothing => at,
+        Kind::Event => words::text(STDOUT_FILENO, out, at, &bytes),
+        Kind::Wrong(expected) => {
+            tell(number, expected);
+            at
+        },
+    }
+}
+
+fn tell(number: u64, expected: Expected) {
+    match expected {
+        Expected::Name => wrong(number, b"an event's name, as TOOSTART, or raw\n"),
+        Expected::None => wrong(number, b"no number after this event's name\n"),
+        Expected::One => wrong(
+            number,
+            b"one number, 0 to 4294967295, after this event's name\n",
+        ),
+        Expected::Two => wrong(
+            number,
+            b"two numbers, 0 to 4294967295, after this event's name\n",
+        ),
+        Expected::Report => wrong(number, b"1, good, or 0, failed, after this event's name\n"),
+        Expected::Raw => wrong(number, b"24 hex digits after raw\n"),
+        Expected::Short => wrong(number, b"a line of at most 256 bytes\n"),
+    }
+}
+
+fn wrong(number: u64, expected: &[u8]) {
+    let mut said = [0u8; 4096];
+    let at = words::text(STDERR_FILENO, &mut said, 0, b"assemble: line ");
+    let at = words::number(STDERR_FILENO, &mut said, at, number);
+    let at = words::text(STDERR_FILENO, &mut said, at, b": expected ");
+    let at = words::text(STDERR_FILENO, &mut said, at, expected);
+    words::flush(STDERR_FILENO, &said, at);
+}

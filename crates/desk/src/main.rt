@@ -1,0 +1,186 @@
+// Strings of 512 bytes to a fresh ground reader: a line a string with what it answers and holds (The ground reader).
+use kinds::Mode;
+use kinds::State;
+use libc::STDERR_FILENO;
+use libc::STDIN_FILENO;
+use libc::STDOUT_FILENO;
+use reader::Reader;
+use words::Parsed;
+
+const STRING: usize = 512;
+
+// Many strings at a time.
+const PIECE: usize = 32768;
+
+// The reader, and how much of the output buffer is taken.
+struct Heard {
+    reader: Reader,
+    at: usize,
+    more: bool,
+}
+
+fn main() {
+    if os::arg_count() != 2 {
+        usage();
+        return;
+    }
+    let mut word = io::buffer();
+    let n = os::arg(1, &mut word);
+    match words::parse(&word[..n]) {
+        Parsed::Number(log) => hear(log),
+        _ => usage(),
+    }
+}
+
+fn usage() {
+    io::write_all(
+        STDERR_FILENO,
+        b"desk: use: desk LOG, blocks on standard input; LOG is the log's number, 0 to 4294967295, decimal or 0x and hex\n",
+    );
+}
+
+fn hear(log: u32) {
+    let mut out = [0u8; 4096];
+    let at = words::text(
+        STDOUT_FILENO,
+        &mut out,
+        0,
+        b"an next heard behind mode lci lpa lpm saa lciw lpaw too arm ev\n",
+    );
+    let heard = all(log, &mut out, at);
+    words::flush(STDOUT_FILENO, &out, heard.at);
+    sum_up(heard.reader);
+}
+
+// A proved loop has to end, and nothing says that the input does: the turns are counted down from a number that no run uses up.
+fn all(log: u32, out: &mut [u8; 4096], from: usize) -> Heard {
+    let mut heard = Heard {
+        reader: reader::fresh(log),
+        at: from,
+        more: true,
+    };
+    let mut turns = u64::MAX;
+    while turns > 0 {
+        heard = turn(heard, out);
+        if !heard.more {
+            return heard;
+        }
+        turns -= 1;
+    }
+    heard
+}
+
+// Reads a piece and delivers its strings. A piece that is not full is the last.
+fn turn(heard: Heard, out: &mut [u8; 4096]) -> Heard {
+    let mut piece = [0u8; 32768];
+    let n = io::read_full(STDIN_FILENO, &mut piece);
+    let after = deliver(heard, &piece[..n], out);
+    let reader = after.reader;
+    Heard {
+        reader,
+        at: after.at,
+        more: n == PIECE,
+    }
+}
+
+// The strings of a piece; what is left at its end is shorter than a block, and delivered as it is.
+fn deliver(first: Heard, piece: &[u8], out: &mut [u8; 4096]) -> Heard {
+    let mut heard = first;
+    let mut i: usize = 0;
+    while i < piece.len() {
+        let end = words::group_end(piece.len(), i, STRING);
+        heard = one(heard, &piece[i..end], out);
+        i = end;
+    }
+    heard
+}
+
+fn one(heard: Heard, string: &[u8], out: &mut [u8; 4096]) -> Heard {
+    let read = reader::read(heard.reader, string);
+    let answer = read.answer;
+    let reader = read.reader;
+    let state = reader.state;
+    let at = words::number(STDOUT_FILENO, out, heard.at, answer.number() as u64);
+    let at = column(out, at, reader.next as u64);
+    let at = column(out, at, reader.heard as u64);
+    let at = column(out, at, kinds::flag::number(reader::behind(reader)) as u64);
+    let at = columns(out, at, state);
+    let at = words::byte(STDOUT_FILENO, out, at, b'\n');
+    Heard {
+        reader,
+        at,
+        more: true,
+    }
+}
+
+fn columns(out: &mut [u8; 4096], at: usize, state: State) -> usize {
+    let mode = state.mode;
+    let lci = state.lci;
+    let lpa = state.lpa;
+    let lpa_mode = state.lpa_mode;
+    let too = state.too;
+    let at = column(out, at, mode.number() as u64);
+    let at = column(out, at, lci.number() as u64);
+    let at = column(out, at, lpa.number() as u64);
+    let at = column(out, at, lpa_mode.number() as u64);
+    let at = column(out, at, kinds::flag::number(state.saa) as u64);
+    let at = column(out, at, kinds::flag::number(state.lci_awaited) as u64);
+    let at = column(out, at, kinds::flag::number(state.lpa_awaited) as u64);
+    let at = column(out, at, too.number() as u64);
+    let at = column(out, at, state.armed as u64);
+    column(out, at, state.count as u64)
+}
+
+fn column(out: &mut [u8; 4096], at: usize, n: u64) -> usize {
+    let at = words::byte(STDOUT_FILENO, out, at, b' ');
+    words::number(STDOUT_FILENO, out, at, n)
+}
+
+// The sentence at the end, for people.
+fn sum_up(reader: Reader) {
+    let mut line = [0u8; 4096];
+    let state = reader.state;
+    let at = say(&mut line, 0, b"desk: the instrument is in mode ");
+    let mode = state.mode;
+    let at = say_mode(&mut line, at, mode);
+    let at = say_event(&mut line, at, state.count);
+    let at = say_behind(&mut line, at, reader);
+    words::flush(STDERR_FILENO, &line, at);
+}
+
+fn say(line: &mut [u8; 4096], at: usize, s: &[u8]) -> usize {
+    words::text(STDERR_FILENO, line, at, s)
+}
+
+fn say_mode(line: &mut [u8; 4096], at: usize, mode: Mode) -> usize {
+    match mode {
+        Mode::Boot => say(line, at, b"BOOT"),
+        Mode::Terminal => say(line, at, b"TERMINAL"),
+        Mode::Quiescent => say(line, at, b"QUIESCENT"),
+        Mode::Hold => say(line, at, b"HOLD"),
+        Mode::Calibration => say(line, at, b"CALIBRATION"),
+        Mode::Physics => say(line, at, b"PHYSICS"),
+        Mode::Too => say(line, at, b"TOO"),
+    }
+}
+
+fn say_event(line: &mut [u8; 4096], at: usize, count: u32) -> usize {
+    if count == 0 {
+        return say(line, at, b" before any event");
+    }
+    let at = say(line, at, b" after event ");
+    words::number(STDERR_FILENO, line, at, count as u64)
+}
+
+fn say_behind(line: &mut [u8; 4096], at: usize, reader: Reader) -> usize {
+    if reader.heard <= reader.next {
+        return say(line, at, b", and the desk is not behind.\n");
+    }
+    let blocks = reader.heard - reader.next;
+    let at = say(line, at, b", and the desk is behind by ");
+    let at = words::number(STDERR_FILENO, line, at, blocks as u64);
+    if blocks == 1 {
+        return say(line, at, b" block.\n");
+    }
+    say(line, at, b" blocks.\n")
+}

@@ -1,0 +1,139 @@
+// Events of 12 bytes through a fresh manager: a line an event (One listing, whole).
+use kinds::Answer;
+use kinds::State;
+use layout::Head;
+use libc::STDIN_FILENO;
+use libc::STDOUT_FILENO;
+use manager::Manager;
+use manager::Stepped;
+
+const EVENT: usize = 12;
+
+// Many events at a time.
+const PIECE: usize = 12288;
+
+// The manager, and how much of the output buffer is taken.
+struct Listed {
+    manager: Manager,
+    at: usize,
+    more: bool,
+}
+
+fn main() {
+    let mut out = [0u8; 4096];
+    let at = words::text(
+        STDOUT_FILENO,
+        &mut out,
+        0,
+        b"ev st mode lci lpa saa too arm rec\n",
+    );
+    let at = all(&mut out, at);
+    words::flush(STDOUT_FILENO, &out, at);
+}
+
+// A proved loop has to end, and nothing says that the input does: the turns are counted down from a number that no run uses up.
+fn all(out: &mut [u8; 4096], from: usize) -> usize {
+    let mut manager = manager::fresh(0);
+    let mut at = from;
+    let mut turns = u64::MAX;
+    while turns > 0 {
+        let listed = turn(manager, out, at);
+        manager = listed.manager;
+        at = listed.at;
+        if !listed.more {
+            return at;
+        }
+        turns -= 1;
+    }
+    at
+}
+
+// Reads a piece and lists its events. A piece that is not full is the last.
+fn turn(manager: Manager, out: &mut [u8; 4096], at: usize) -> Listed {
+    let mut piece = [0u8; 12288];
+    let n = io::read_full(STDIN_FILENO, &mut piece);
+    let listed = list(manager, &piece[..n], out, at);
+    let manager = listed.manager;
+    Listed {
+        manager,
+        at: listed.at,
+        more: n == PIECE,
+    }
+}
+
+// The events of a piece; what is left at its end is shorter than an event.
+fn list(first: Manager, piece: &[u8], out: &mut [u8; 4096], from: usize) -> Listed {
+    let mut manager = first;
+    let mut at = from;
+    let mut i: usize = 0;
+    while i < piece.len() {
+        let end = words::group_end(piece.len(), i, EVENT);
+        let listed = one(manager, &piece[i..end], out, at);
+        manager = listed.manager;
+        at = listed.at;
+        i = end;
+    }
+    Listed {
+        manager,
+        at,
+        more: true,
+    }
+}
+
+fn one(manager: Manager, event: &[u8], out: &mut [u8; 4096], at: usize) -> Listed {
+    let mut lent = [0u8; 512];
+    let before = manager.head;
+    let stepped = manager::step(manager, event, &mut lent);
+    let after = stepped.manager;
+    let state = after.state;
+    let head = after.head;
+    let records = added(before, head, stepped.written);
+    let answer = stepped.answer;
+    let at = event_number(out, at, answer, state.count);
+    let at = column(out, at, answer.number() as u64);
+    let at = columns(out, at, state);
+    let at = column(out, at, records);
+    let at = words::byte(STDOUT_FILENO, out, at, b'\n');
+    Listed {
+        manager: after,
+        at,
+        more: true,
+    }
+}
+
+// The records that an event put into the log: all of the open block's where the event began it.
+fn added(before: Head, after: Head, written: bool) -> u64 {
+    if written {
+        return after.used as u64;
+    }
+    if after.used < before.used {
+        return 0;
+    }
+    (after.used - before.used) as u64
+}
+
+// The number of an event that is in the log.
+fn event_number(out: &mut [u8; 4096], at: usize, answer: Answer, count: u32) -> usize {
+    match answer {
+        Answer::Taken(_) => words::number(STDOUT_FILENO, out, at, count as u64),
+        _ => words::byte(STDOUT_FILENO, out, at, b'-'),
+    }
+}
+
+fn columns(out: &mut [u8; 4096], at: usize, state: State) -> usize {
+    let mode = state.mode;
+    let lci = state.lci;
+    let lpa = state.lpa;
+    let too = state.too;
+    let at = column(out, at, mode.number() as u64);
+    let at = column(out, at, lci.number() as u64);
+    let at = column(out, at, lpa.number() as u64);
+    let at = column(out, at, kinds::flag::number(state.saa) as u64);
+    let at = column(out, at, too.number() as u64);
+    column(out, at, state.armed as u64)
+}
+
+fn column(out: &mut [u8; 4096], at: usize, n: u64) -> usize {
+    let at = words::byte(STDOUT_FILENO, out, at, b' ');
+    words::number(STDOUT_FILENO, out, at, n)
+}
