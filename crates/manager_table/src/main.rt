@@ -1,0 +1,392 @@
+// Runs the manager on sequences that fill its log to the record, on flushes, and on every refusal in its order, with 0xAA in every
+// lent byte. A line for each operation: the answer's number, the log and the count after it, and what stayed as it was; and a line
+// for each block that was written, held to one that is put together by hand with its check worked out bit by bit.
+use kinds::Event;
+use kinds::Mode;
+use kinds::State;
+use layout::Head;
+use libc::STDOUT_FILENO;
+use manager::Manager;
+use manager::Stepped;
+
+fn main() {
+    filling();
+    several();
+    flushing();
+    the_end_of_the_count();
+    orders();
+    events_refused();
+    logs_refused();
+    flushes_refused();
+}
+
+// Blocks by hand -------------------------------------------------------------------------------------------------------------
+
+// The head of a block of log 7, and no records yet.
+fn head(number: u8, used: u8, before: u8) -> [u8; 512] {
+    let mut block = [0u8; 512];
+    block[3] = 7;
+    block[7] = number;
+    block[9] = used;
+    block[13] = before;
+    block
+}
+
+// A block with a record at a position.
+fn put(block: [u8; 512], at: usize, bytes: [u8; 8]) -> [u8; 512] {
+    let mut put = block;
+    if at < 62 {
+        put[14 + 8 * at] = bytes[0];
+        put[15 + 8 * at] = bytes[1];
+        put[16 + 8 * at] = bytes[2];
+        put[17 + 8 * at] = bytes[3];
+        put[18 + 8 * at] = bytes[4];
+        put[19 + 8 * at] = bytes[5];
+        put[20 + 8 * at] = bytes[6];
+        put[21 + 8 * at] = bytes[7];
+    }
+    put
+}
+
+fn sealed(block: [u8; 512]) -> [u8; 512] {
+    let mut whole = block;
+    let check = bit_by_bit(&whole);
+    whole[510] = (check / 256) as u8;
+    whole[511] = (check % 256) as u8;
+    whole
+}
+
+// OPMODE 1 and STATUS 0, 1.
+fn started(used: u8) -> [u8; 512] {
+    let b = put(head(0, used, 0), 0, [0, 1, 0, 1, 0, 0, 0, 0]);
+    put(b, 1, [0, 29, 0, 0, 0, 0, 0, 1])
+}
+
+// MAINFEED, OPMODE 2 and STATUS 0, 2 at a position.
+fn fed(block: [u8; 512], at: u8) -> [u8; 512] {
+    let b = put(block, at as usize, [0, 20, 0, 0, 0, 0, 0, 0]);
+    let b = put(b, at as usize + 1, [0, 1, 0, 2, 0, 0, 0, 0]);
+    put(b, at as usize + 2, [0, 29, 0, 0, 0, 0, 0, 2])
+}
+
+// STARTED, MAINFEEDON and the NOOPs before the event of a number: STATUS 0, n stands at n + 2.
+fn quiet(used: u8, end: u8) -> [u8; 512] {
+    let mut b = fed(started(used), 2);
+    for n in 3..60u8 {
+        if n < end {
+            b[31 + 8 * (n as usize)] = 29;
+            b[37 + 8 * (n as usize)] = n;
+        }
+    }
+    sealed(b)
+}
+
+// Sequences ------------------------------------------------------------------------------------------------------------------
+
+// STARTED, MAINFEEDON and NOOPs: 5 records and one for each NOOP.
+fn quiescent(noops: u32) -> Manager {
+    let m = after(manager::fresh(7), Event::Started);
+    let mut m = after(m, Event::MainFeedOn);
+    for _ in 0..noops {
+        m = after(m, Event::NoOp);
+    }
+    m
+}
+
+fn after(m: Manager, event: Event) -> Manager {
+    let mut lent = [0xAAu8; 512];
+    let bytes = layout::event_bytes(event);
+    manager::step(m, &bytes, &mut lent).manager
+}
+
+// A block filled to its last record, and one event more.
+fn filling() {
+    let m = step(b"STARTED", manager::fresh(7), Event::Started, started(2));
+    step(b"MAINFEEDON", m, Event::MainFeedOn, started(2));
+    let b = quiet(62, 60);
+    let m = step(b"61 used, NOOP", quiescent(56), Event::NoOp, b);
+    let m = step(b"62 used, NOOP", m, Event::NoOp, b);
+    step(b"1 used, NOOP", m, Event::NoOp, b);
+}
+
+// TOOSTART has 6 records: at 56 used they are the last, at 57 and at 58 they begin the next block.
+fn several() {
+    let too = Event::TooStart { run: 7, dwell: 600 };
+    step(b"56 used, TOOSTART", quiescent(51), too, quiet(56, 54));
+    step(b"57 used, TOOSTART", quiescent(52), too, quiet(57, 55));
+    step(b"58 used, TOOSTART", quiescent(53), too, quiet(58, 56));
+}
+
+fn flushing() {
+    let first = sealed(started(2));
+    let m = flush(b"flush of a fresh log", manager::fresh(7), first);
+    let m = flush(b"flush of 2 records", after(m, Event::Started), first);
+    let m = flush(b"flush again", m, first);
+    let second = sealed(fed(head(1, 3, 1), 0));
+    let m = step(b"MAINFEEDON after it", m, Event::MainFeedOn, second);
+    let m = flush(b"flush of 3 records", m, second);
+    step(b"NOOP after it", m, Event::NoOp, second);
+    flush(b"flush of 62 records", quiescent(57), quiet(62, 60));
+}
+
+// The last event has the number 4294967295; it is refused by the rules (NOTRUN) and logged. Past it only a flush goes.
+fn the_end_of_the_count() {
+    let state = State::zeroed(4294967294);
+    let m = made(state, 0, 0, 4294967294, [0; 496]);
+    let mut b = head(0, 1, 0xFE);
+    b[10] = 0xFF;
+    b[11] = 0xFF;
+    b[12] = 0xFF;
+    let b = sealed(put(b, 0, [0, 29, 0, 3, 0xFF, 0xFF, 0xFF, 0xFF]));
+    let m = step(b"the last event, NOOP in BOOT", m, Event::NoOp, b);
+    let m = step(b"FULL, NOOP", m, Event::NoOp, b);
+    let m = flush(b"FULL, flush", m, b);
+    let m = flush(b"FULL, flush again", m, b);
+    step(b"FULL, NOOP after the flush", m, Event::NoOp, b);
+}
+
+// Refusals -------------------------------------------------------------------------------------------------------------------
+
+fn made(state: State, block: u32, used: u16, before: u32, records: [u8; 496]) -> Manager {
+    let head = Head {
+        number: 7,
+        block,
+        used,
+        before,
+    };
+    Manager {
+        state,
+        head,
+        records,
+    }
+}
+
+// The order: each line mends what the line before it was refused for.
+fn orders() {
+    let mut area = [0u8; 496];
+    area[1] = 29;
+    let full = State::zeroed(4294967295);
+    let unsound = full.with_mode(Mode::Physics);
+    let wrong = made(unsound, 0, 1, 4294967294, area);
+    let right = made(full, 0, 1, 4294967294, area);
+    let bad = [0, 24, 0, 0, 0, 0, 0, 0, 0, 0, 0, 0];
+    let noop = layout::event_bytes(Event::NoOp);
+    step_short(b"511 lent, bad event, unsound, full", wrong, &bad);
+    step_whole(b"512 lent, bad event, unsound, full", wrong, &bad);
+    step_whole(b"512 lent, NOOP, unsound, full", wrong, &noop);
+    step_whole(b"512 lent, NOOP, sound, full", right, &noop);
+    step_short(b"511 lent, NOOP, sound, full", right, &noop);
+    step_whole(b"512 lent, bad event, sound, full", right, &bad);
+}
+
+fn events_refused() {
+    let m = manager::fresh(7);
+    let noop = layout::event_bytes(Event::NoOp);
+    step_short(b"511 lent, NOOP, fresh", m, &noop);
+    step_longer(b"513 lent, NOOP, fresh", m, &noop);
+    step_whole(b"no bytes", m, b"");
+    step_whole(b"NOOP of 11 bytes", m, &[0, 10, 0, 0, 0, 0, 0, 0, 0, 0, 0]);
+    step_whole(b"code 0", m, &[0, 0, 0, 0, 0, 0, 0, 0, 0, 0, 0, 0]);
+    step_whole(b"zero field 1", m, &[0, 10, 0, 1, 0, 0, 0, 0, 0, 0, 0, 0]);
+    step_whole(b"NOOP, b 1", m, &[0, 10, 0, 0, 0, 0, 0, 0, 0, 0, 0, 1]);
+    step_whole(b"CALSTATUS 2", m, &[0, 20, 0, 0, 0, 0, 0, 2, 0, 0, 0, 0]);
+}
+
+// Logs that cannot have come about, at count 1, and first one that can.
+fn logs_refused() {
+    let mut area = [0u8; 496];
+    area[1] = 29;
+    area[7] = 1;
+    log(b"a sound log", 0, 1, 0, area);
+    log(b"used 63", 0, 63, 0, area);
+    log(b"block number over count before", 1, 1, 0, area);
+    log(b"count before over count", 0, 1, 2, area);
+    log(b"used 0, counts unequal", 0, 0, 0, [0; 496]);
+    log(b"used 1, counts equal", 0, 1, 1, area);
+    let mut next = area;
+    next[8] = 1;
+    log(b"the first byte beyond used", 0, 1, 0, next);
+    let mut last = area;
+    last[495] = 1;
+    log(b"the last byte beyond used", 0, 1, 0, last);
+}
+
+fn log(name: &[u8], block: u32, used: u16, before: u32, area: [u8; 496]) {
+    let noop = layout::event_bytes(Event::NoOp);
+    step_whole(
+        name,
+        made(State::zeroed(1), block, used, before, area),
+        &noop,
+    );
+}
+
+fn flushes_refused() {
+    let unsound = State::fresh().with_mode(Mode::Physics);
+    let wrong = made(unsound, 0, 0, 0, [0; 496]);
+    flush_short(b"flush, 511 lent, unsound, empty", wrong);
+    flush(b"flush, 512 lent, unsound, empty", wrong, [0; 512]);
+    flush(
+        b"flush, 512 lent, sound, empty",
+        manager::fresh(7),
+        [0; 512],
+    );
+    flush_short(
+        b"flush, 511 lent, 2 records",
+        after(manager::fresh(7), Event::Started),
+    );
+}
+
+// Operations -----------------------------------------------------------------------------------------------------------------
+
+fn step(name: &[u8], m: Manager, event: Event, expected: [u8; 512]) -> Manager {
+    let mut lent = [0xAAu8; 512];
+    let bytes = layout::event_bytes(event);
+    let done = manager::step(m, &bytes, &mut lent);
+    show(name, m, done, &lent);
+    show_block(done.written, &lent, &expected);
+    done.manager
+}
+
+fn flush(name: &[u8], m: Manager, expected: [u8; 512]) -> Manager {
+    let mut lent = [0xAAu8; 512];
+    let done = manager::flush(m, &mut lent);
+    show(name, m, done, &lent);
+    show_block(done.written, &lent, &expected);
+    done.manager
+}
+
+fn step_whole(name: &[u8], m: Manager, event: &[u8]) {
+    let mut lent = [0xAAu8; 512];
+    let done = manager::step(m, event, &mut lent);
+    show(name, m, done, &lent);
+}
+
+fn step_short(name: &[u8], m: Manager, event: &[u8]) {
+    let mut lent = [0xAAu8; 511];
+    let done = manager::step(m, event, &mut lent);
+    show(name, m, done, &lent);
+}
+
+fn step_longer(name: &[u8], m: Manager, event: &[u8]) {
+    let mut lent = [0xAAu8; 513];
+    let done = manager::step(m, event, &mut lent);
+    show(name, m, done, &lent);
+}
+
+fn flush_short(name: &[u8], m: Manager) {
+    let mut lent = [0xAAu8; 511];
+    let done = manager::flush(m, &mut lent);
+    show(name, m, done, &lent);
+}
+
+// Lines ----------------------------------------------------------------------------------------------------------------------
+
+fn show(name: &[u8], before: Manager, done: Stepped, lent: &[u8]) {
+    let answer = done.answer;
+    let m = done.manager;
+    let head = m.head;
+    let s = m.state;
+    io::write_all(STDOUT_FILENO, name);
+    number(b": answer ", answer.number() as u64);
+    yes_or_no(b"; written ", done.written);
+    number(b"; block ", head.block as u64);
+    number(b", used ", head.used as u64);
+    number(b", count before ", head.before as u64);
+    number(b", count ", s.count as u64);
+    yes_or_no(b"; lent bytes as before ", untouched(lent));
+    yes_or_no(b", manager as before ", same_manager(before, m));
+    io::write_all(STDOUT_FILENO, b"\n");
+}
+
+fn show_block(written: bool, lent: &[u8], expected: &[u8]) {
+    if written {
+        let head = layout::read_head(lent);
+        yes_or_no(b"  the block: intact ", layout::intact(lent));
+        number(b"; log ", head.number as u64);
+        number(b", block ", head.block as u64);
+        number(b", used ", head.used as u64);
+        number(b", count before ", head.before as u64);
+        yes_or_no(b"; as by hand ", check::same(lent, expected));
+        io::write_all(STDOUT_FILENO, b"\n");
+    }
+}
+
+fn untouched(lent: &[u8]) -> bool {
+    let mut all = true;
+    for i in 0..lent.len() {
+        all = all & (lent[i] == 0xAA);
+    }
+    all
+}
+
+fn same_manager(a: Manager, b: Manager) -> bool {
+    let x = a.head;
+    let y = b.head;
+    let numbers = (x.number == y.number) & (x.block == y.block);
+    let counts = (x.used == y.used) & (x.before == y.before);
+    let p = a.records;
+    let q = b.records;
+    numbers & counts & same_state(a.state, b.state) & same_area(p, q)
+}
+
+fn same_area(p: [u8; 496], q: [u8; 496]) -> bool {
+    check::same(&p, &q)
+}
+
+fn same_state(a: State, b: State) -> bool {
+    let flags = (a.saa == b.saa)
+        & (a.lci_awaited == b.lci_awaited)
+        & (a.lpa_awaited == b.lpa_awaited);
+    same_kinds(a, b) & flags & (a.armed == b.armed) & (a.count == b.count)
+}
+
+fn same_kinds(a: State, b: State) -> bool {
+    let mode = a.mode;
+    let mode_b = b.mode;
+    let lci = a.lci;
+    let lci_b = b.lci;
+    let lpa = a.lpa;
+    let lpa_b = b.lpa;
+    let lpa_mode = a.lpa_mode;
+    let lpa_mode_b = b.lpa_mode;
+    let too = a.too;
+    let too_b = b.too;
+    let tasks = lci.is(lci_b) & lpa.is(lpa_b) & lpa_mode.is(lpa_mode_b);
+    mode.is(mode_b) & tasks & too.is(too_b)
+}
+
+fn number(name: &[u8], n: u64) {
+    io::write_all(STDOUT_FILENO, name);
+    io::print_decimal(STDOUT_FILENO, n);
+}
+
+fn yes_or_no(name: &[u8], yes: bool) {
+    io::write_all(STDOUT_FILENO, name);
+    if yes {
+        io::write_all(STDOUT_FILENO, b"yes");
+    } else {
+        io::write_all(STDOUT_FILENO, b"no");
+    }
+}
+
+// The check as the standard draws it: one bit at a time, over all that stands before it.
+fn bit_by_bit(block: &[u8; 512]) -> u16 {
+    let mut register: u16 = 0xFFFF;
+    for i in 0..510usize {
+        register = byte_fed(register, block[i]);
+    }
+    register
+}
+
+// Eight bits, the highest first: what leaves the register comes back at x^12, x^5 and 1.
+fn byte_fed(register: u16, byte: u8) -> u16 {
+    let mut taken = register ^ ((byte as u16) << 8);
+    for _ in 0..8u32 {
+        taken = if taken >> 15 == 1 {
+            (taken << 1) ^ 0x1021
+        } else {
+            taken << 1
+        };
+    }
+    taken
+}
