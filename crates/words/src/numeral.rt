@@ -1,5 +1,7 @@
 // Numbers in words: decimal, or 0x and hexadecimal digits, 0 to 4,294,967,295.
-ghost use Prim.Native.Nat.{_≤_, _<_};
+ghost use Prim.Native.Nat.{_≤_};
+ghost use mathlib.Core.Path.{_≡_};
+ghost use Rattle.words.specs.Numeral.{parsed, digitsOf, digitOf, hexLetter, withDigit, capped};
 
 pub enum Parsed {
     Number(u32),
@@ -13,7 +15,9 @@ const ABOVE: u64 = 4_294_967_296;
 // No digit of any base.
 pub const NO_DIGIT: u64 = 16;
 
-pub fn parse(word: &[u8]) -> Parsed {
+pub fn parse(word: &[u8]) -> Parsed
+    ensures { λ r. ⌜ r ≡ parsed (now (word .entry)) ⌝ }
+{
     if word.len() < 3 {
         return digits(word, false);
     }
@@ -26,7 +30,9 @@ pub fn parse(word: &[u8]) -> Parsed {
     digits(&word[2..], true)
 }
 
-fn digits(word: &[u8], hex: bool) -> Parsed {
+fn digits(word: &[u8], hex: bool) -> Parsed
+    ensures { λ r. ⌜ r ≡ digitsOf (now (word .entry)) hex ⌝ }
+{
     if word.len() == 0 {
         return Parsed::NoNumber;
     }
@@ -48,34 +54,36 @@ fn digits(word: &[u8], hex: bool) -> Parsed {
 
 // The number that a byte stands for as a digit, and 16 where it is none.
 pub fn digit(b: u8, hex: bool) -> u64
+    ensures { λ r. ⌜ r ≡ digitOf b hex ⌝ }
     ensures { λ r. ⌜ r ≤ 16 ⌝ }
 {
     if b < b'0' {
         return NO_DIGIT;
     }
-    if b <= b'9' {
+    if b < 58 {
         return (b - b'0') as u64;
     }
-    if !hex {
-        return NO_DIGIT;
+    if hex {
+        return hex_letter(b);
     }
-    hex_letter(b)
+    NO_DIGIT
 }
 
 // The same of the six digits above 9, in either case.
 fn hex_letter(b: u8) -> u64
+    ensures { λ r. ⌜ r ≡ hexLetter b ⌝ }
     ensures { λ r. ⌜ r ≤ 16 ⌝ }
 {
     if b < b'A' {
         return NO_DIGIT;
     }
-    if b <= b'F' {
+    if b < 71 {
         return (b - b'A') as u64 + 10;
     }
     if b < b'a' {
         return NO_DIGIT;
     }
-    if b <= b'f' {
+    if b < 103 {
         return (b - b'a') as u64 + 10;
     }
     NO_DIGIT
@@ -85,8 +93,18 @@ fn hex_letter(b: u8) -> u64
 fn with_digit(value: u64, hex: bool, d: u64) -> u64
     requires { ⌜ value ≤ 4_294_967_296 ⌝ }
     requires { ⌜ d ≤ 16 ⌝ }
+    ensures { λ r. ⌜ r ≡ withDigit value hex d ⌝ }
     ensures { λ r. ⌜ r ≤ 4_294_967_296 ⌝ }
 {
-    let next = if hex { value * 16 + d } else { value * 10 + d };
-    if next < ABOVE { next } else { ABOVE }
+    if hex {
+        return capped(value * 16 + d);
+    }
+    capped(value * 10 + d)
+}
+
+fn capped(n: u64) -> u64
+    ensures { λ r. ⌜ r ≡ capped n ⌝ }
+    ensures { λ r. ⌜ r ≤ 4_294_967_296 ⌝ }
+{
+    if n < ABOVE { n } else { ABOVE }
 }
