@@ -1,5 +1,6 @@
 // Text and numbers, put into a buffer that is written out whenever it is full. `at` is how much of it is taken.
-ghost use Prim.Native.Nat.{_≤_};
+ghost use mathlib.Core.Path.{_≡_};
+ghost use Prim.Native.Nat.{_≤_, max};
 
 const SIZE: usize = 4096;
 
@@ -16,7 +17,9 @@ pub fn byte(fd: i32, out: &mut [u8; 4096], at: usize, b: u8) -> usize
     1
 }
 
-pub fn text(fd: i32, out: &mut [u8; 4096], at: usize, s: &[u8]) -> usize {
+pub fn text(fd: i32, out: &mut [u8; 4096], at: usize, s: &[u8]) -> usize
+    ensures { λ r. ⌜ r ≤ max at 4096 ⌝ }
+{
     let mut to = at;
     let mut i: usize = 0;
     while i < s.len() {
@@ -27,15 +30,20 @@ pub fn text(fd: i32, out: &mut [u8; 4096], at: usize, s: &[u8]) -> usize {
 }
 
 // A number in decimal.
-pub fn number(fd: i32, out: &mut [u8; 4096], at: usize, n: u64) -> usize {
+pub fn number(fd: i32, out: &mut [u8; 4096], at: usize, n: u64) -> usize
+    ensures { λ r. ⌜ r ≤ max at 4096 ⌝ }
+{
     let mut digits = [0u8; 20];
     let k = io::decimal(n, &mut digits);
     text(fd, out, at, &digits[..k])
 }
 
-// Writes out what the buffer has.
-pub fn flush(fd: i32, out: &[u8; 4096], at: usize) -> bool {
-    write_part(fd, out, at)
+// Writes out what the buffer has; nothing of it is taken then.
+pub fn flush(fd: i32, out: &[u8; 4096], at: usize) -> usize
+    ensures { λ r. ⌜ r ≡ 0 ⌝ }
+{
+    write_part(fd, out, at);
+    0
 }
 
 fn write_part(fd: i32, out: &[u8], at: usize) -> bool {

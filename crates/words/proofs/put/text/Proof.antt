@@ -1,12 +1,13 @@
--- `put::text` is safe and ends. Assumes nothing.
+-- `put::text`: each byte leaves the place within the buffer.
+-- Assumes nothing.
 use borrow.Author.Needs.{needs}
-use Prim.Native.Nat.{_≤_, _-_}
+use Prim.Native.Nat.{_≤_, _-_, max}
 use lib.ListN.{length}
 use Rattle.words.proofs.put.text.Statement.{statement}
 use Rattle.words.proofs.put.text.Tie as tie
 
 abbrev Inv-loop : tie.InvT-loop
-Inv-loop fd out₀ at s to₀ i₀ out to i = i ≤ length s
+Inv-loop fd out₀ at s to₀ i₀ out to i = (i ≤ length s) × (to ≤ max at 4096)
 
 abbrev μ-loop : tie.MeasureT-loop
 μ-loop fd out₀ at s to₀ i₀ out to i = length s - i
