@@ -9,7 +9,8 @@ use kinds::Event;
 use kinds::EventParts;
 use kinds::FoundEvent;
 
-const LENGTH: usize = 12;
+// The bytes of an event.
+pub const EVENT: usize = 12;
 
 const CODE_AT: usize = 0;
 
@@ -23,7 +24,7 @@ const B_AT: usize = 8;
 pub fn read_event(s: &[u8]) -> FoundEvent
     ensures { λ r. ⌜ r ≡ readEvent (now (s .entry)) ⌝ }
 {
-    if s.len() != LENGTH {
+    if s.len() != EVENT {
         return FoundEvent::Unknown;
     }
     Event::of(EventParts {
