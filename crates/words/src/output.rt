@@ -17,23 +17,31 @@ pub(crate) fn write_whole(fd: i32, s: &[u8]) -> bool {
     true
 }
 
-// One write, made again where its failure passes; 0 where it fails. The turns are counted down from a number that no run uses up.
+// One write of something, made again where its failure passes; 0 where it fails. The turns are counted down from a number that no run uses up.
 fn write_some(fd: i32, s: &[u8]) -> usize
     ensures { λ r. ⌜ r ≤ length (now (s .entry)) ⌝ }
 {
     let mut turns = u64::MAX;
     while turns > 0 {
         let got = libc::write(fd, s);
-        if got >= 0 {
+        if got > 0 {
             return io::count(got, s);
         }
-        if !passes() {
+        if !goes_again(got) {
             tell(fd);
             return 0;
         }
         turns -= 1;
     }
     0
+}
+
+// A write that takes nothing is no better the next time.
+fn goes_again(got: isize) -> bool {
+    if got == 0 {
+        return false;
+    }
+    passes()
 }
 
 // There is nowhere to tell that standard error fails.

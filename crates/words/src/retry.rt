@@ -15,5 +15,13 @@ pub(crate) fn passes() -> bool {
 
 // A millisecond.
 fn pause() {
-    libc::sched_yield();
+    let asked = libc::types::timespec {
+        tv_sec: 0,
+        tv_nsec: 1_000_000,
+    };
+    let mut left = libc::types::timespec {
+        tv_sec: 0,
+        tv_nsec: 0,
+    };
+    libc::nanosleep(&asked, &mut left);
 }

@@ -21,8 +21,8 @@ count-requires c κs = search needs
 returns : tie.Need-returns Inv-loop μ-loop
 returns c = search needs
 
-passes-requires : tie.Need-passes-requires Inv-loop μ-loop
-passes-requires c κs = search needs
+goes-again-requires : tie.Need-goes-again-requires Inv-loop μ-loop
+goes-again-requires c κs = search needs
 
 tell-requires : tie.Need-tell-requires Inv-loop μ-loop
 tell-requires c κs = search needs
@@ -52,7 +52,7 @@ write-some-spec =
     write-requires
     count-requires
     returns
-    passes-requires
+    goes-again-requires
     tell-requires
     returns-2
     sub-turns
