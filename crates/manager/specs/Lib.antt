@@ -1,5 +1,7 @@
--- The specifications of `manager`: the log, and what a step and a flush leave. Assumes nothing.
+-- The specifications of `manager`: the log, and what a step, a flush and a run leave. Assumes nothing.
 pub mod Log
 pub mod LogLaws
 pub mod Manager
 pub mod ManagerLaws
+pub mod Run
+pub mod RunLaws
