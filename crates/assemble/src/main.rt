@@ -3,12 +3,12 @@ mod line;
 mod names;
 
 use libc::STDERR_FILENO;
-use libc::STDIN_FILENO;
 use libc::STDOUT_FILENO;
 use line::Expected;
 use line::Kind;
+use words::ROOM;
 
-const PIECE: usize = 4096;
+const PIECE: usize = 65536;
 
 // How much of the line has come, whether it is too long, its number, and how much of the output buffer is taken.
 struct Text {
@@ -20,7 +20,17 @@ struct Text {
 }
 
 fn main() {
-    let mut out = [0u8; 4096];
+    if words::none_given() {
+        assemble_all();
+    } else {
+        words::tell_use(
+            b"assemble: use: assemble, a text of events on standard input; it takes no words\n",
+        );
+    }
+}
+
+fn assemble_all() {
+    let mut out = [0u8; ROOM];
     let mut space = [0u8; 256];
     let text = all(&mut space, &mut out);
     let text = finish(text, &mut space, &mut out);
@@ -28,7 +38,7 @@ fn main() {
 }
 
 // A proved loop has to end, and nothing says that the input does: the turns are counted down from a number that no run uses up.
-fn all(space: &mut [u8; 256], out: &mut [u8; 4096]) -> Text {
+fn all(space: &mut [u8; 256], out: &mut [u8; ROOM]) -> Text {
     let mut text = Text {
         length: 0,
         long: false,
@@ -47,16 +57,17 @@ fn all(space: &mut [u8; 256], out: &mut [u8; 4096]) -> Text {
     text
 }
 
-// Reads a piece and takes its bytes. A piece that is not full is the last.
-fn turn(text: Text, space: &mut [u8; 256], out: &mut [u8; 4096]) -> Text {
-    let mut piece = io::buffer();
-    let n = io::read_full(STDIN_FILENO, &mut piece);
+// Reads a piece, takes its bytes and writes the events out, since who reads a live feed waits for them.
+fn turn(text: Text, space: &mut [u8; 256], out: &mut [u8; ROOM]) -> Text {
+    let mut piece = [0u8; PIECE];
+    let n = words::fill(&mut piece, 1);
     let mut after = take_all(text, &piece[..n], space, out);
-    after.more = n == PIECE;
+    after.at = words::flush(STDOUT_FILENO, out, after.at);
+    after.more = words::reads_on(n, 1, after.at);
     after
 }
 
-fn take_all(first: Text, piece: &[u8], space: &mut [u8; 256], out: &mut [u8; 4096]) -> Text {
+fn take_all(first: Text, piece: &[u8], space: &mut [u8; 256], out: &mut [u8; ROOM]) -> Text {
     let mut text = first;
     let mut i: usize = 0;
     while i < piece.len() {
@@ -66,7 +77,7 @@ fn take_all(first: Text, piece: &[u8], space: &mut [u8; 256], out: &mut [u8; 409
     text
 }
 
-fn take(text: Text, b: u8, space: &mut [u8; 256], out: &mut [u8; 4096]) -> Text {
+fn take(text: Text, b: u8, space: &mut [u8; 256], out: &mut [u8; ROOM]) -> Text {
     if b == b'\n' {
         return finish(text, space, out);
     }
@@ -82,7 +93,7 @@ fn take(text: Text, b: u8, space: &mut [u8; 256], out: &mut [u8; 4096]) -> Text 
 }
 
 // The end of a line: its event is written, or what is wrong is told.
-fn finish(text: Text, space: &mut [u8; 256], out: &mut [u8; 4096]) -> Text {
+fn finish(text: Text, space: &mut [u8; 256], out: &mut [u8; ROOM]) -> Text {
     let mut after = text;
     if text.long {
         tell(text.number, Expected::Short);
@@ -95,7 +106,7 @@ fn finish(text: Text, space: &mut [u8; 256], out: &mut [u8; 4096]) -> Text {
     after
 }
 
-fn write(space: &[u8], length: usize, number: u64, out: &mut [u8; 4096], at: usize) -> usize {
+fn write(space: &[u8], length: usize, number: u64, out: &mut [u8; ROOM], at: usize) -> usize {
     let read = line::read(space, length);
     let kind = read.kind;
     let bytes = read.bytes;
@@ -128,7 +139,7 @@ fn tell(number: u64, expected: Expected) {
 }
 
 fn wrong(number: u64, expected: &[u8]) {
-    let mut said = [0u8; 4096];
+    let mut said = [0u8; ROOM];
     let at = words::text(STDERR_FILENO, &mut said, 0, b"assemble: line ");
     let at = words::number(STDERR_FILENO, &mut said, at, number);
     let at = words::text(STDERR_FILENO, &mut said, at, b": expected ");

@@ -1,16 +1,16 @@
 // Strings of 512 bytes to a fresh ground reader: a line a string with what it answers and holds (The ground reader).
 use kinds::Mode;
 use kinds::State;
+use layout::BLOCK;
 use libc::STDERR_FILENO;
-use libc::STDIN_FILENO;
 use libc::STDOUT_FILENO;
 use reader::Reader;
+use words::BROKEN;
 use words::Parsed;
-
-const STRING: usize = 512;
+use words::ROOM;
 
 // Many strings at a time.
-const PIECE: usize = 32768;
+const PIECE: usize = 65536;
 
 // The reader, and how much of the output buffer is taken.
 struct Heard {
@@ -20,27 +20,16 @@ struct Heard {
 }
 
 fn main() {
-    if os::arg_count() != 2 {
-        usage();
-        return;
-    }
-    let mut word = io::buffer();
-    let n = os::arg(1, &mut word);
-    match words::parse(&word[..n]) {
+    match words::only_number() {
         Parsed::Number(log) => hear(log),
-        _ => usage(),
+        _ => words::tell_use(
+            b"desk: use: desk LOG, blocks on standard input; LOG is the log's number, 0 to 4294967295, decimal or 0x and hex\n",
+        ),
     }
-}
-
-fn usage() {
-    io::write_all(
-        STDERR_FILENO,
-        b"desk: use: desk LOG, blocks on standard input; LOG is the log's number, 0 to 4294967295, decimal or 0x and hex\n",
-    );
 }
 
 fn hear(log: u32) {
-    let mut out = [0u8; 4096];
+    let mut out = [0u8; ROOM];
     let at = words::text(
         STDOUT_FILENO,
         &mut out,
@@ -48,12 +37,14 @@ fn hear(log: u32) {
         b"an next heard behind mode lci lpa lpm saa lciw lpaw too arm ev\n",
     );
     let heard = all(log, &mut out, at);
-    words::flush(STDOUT_FILENO, &out, heard.at);
-    sum_up(heard.reader);
+    let at = words::flush(STDOUT_FILENO, &out, heard.at);
+    if at != BROKEN {
+        sum_up(heard.reader);
+    }
 }
 
 // A proved loop has to end, and nothing says that the input does: the turns are counted down from a number that no run uses up.
-fn all(log: u32, out: &mut [u8; 4096], from: usize) -> Heard {
+fn all(log: u32, out: &mut [u8; ROOM], from: usize) -> Heard {
     let mut heard = Heard {
         reader: reader::fresh(log),
         at: from,
@@ -70,32 +61,33 @@ fn all(log: u32, out: &mut [u8; 4096], from: usize) -> Heard {
     heard
 }
 
-// Reads a piece and delivers its strings. A piece that is not full is the last.
-fn turn(heard: Heard, out: &mut [u8; 4096]) -> Heard {
-    let mut piece = [0u8; 32768];
-    let n = io::read_full(STDIN_FILENO, &mut piece);
+// Reads a piece, delivers its strings and writes the lines out, since who reads a live feed waits for them.
+fn turn(heard: Heard, out: &mut [u8; ROOM]) -> Heard {
+    let mut piece = [0u8; PIECE];
+    let n = words::fill(&mut piece, BLOCK);
     let after = deliver(heard, &piece[..n], out);
     let reader = after.reader;
+    let at = words::flush(STDOUT_FILENO, out, after.at);
     Heard {
         reader,
-        at: after.at,
-        more: n == PIECE,
+        at,
+        more: words::reads_on(n, BLOCK, at),
     }
 }
 
 // The strings of a piece; what is left at its end is shorter than a block, and delivered as it is.
-fn deliver(first: Heard, piece: &[u8], out: &mut [u8; 4096]) -> Heard {
+fn deliver(first: Heard, piece: &[u8], out: &mut [u8; ROOM]) -> Heard {
     let mut heard = first;
     let mut i: usize = 0;
     while i < piece.len() {
-        let end = words::group_end(piece.len(), i, STRING);
+        let end = words::group_end(piece.len(), i, BLOCK);
         heard = one(heard, &piece[i..end], out);
         i = end;
     }
     heard
 }
 
-fn one(heard: Heard, string: &[u8], out: &mut [u8; 4096]) -> Heard {
+fn one(heard: Heard, string: &[u8], out: &mut [u8; ROOM]) -> Heard {
     let read = reader::read(heard.reader, string);
     let answer = read.answer;
     let reader = read.reader;
@@ -113,7 +105,7 @@ fn one(heard: Heard, string: &[u8], out: &mut [u8; 4096]) -> Heard {
     }
 }
 
-fn columns(out: &mut [u8; 4096], at: usize, state: State) -> usize {
+fn columns(out: &mut [u8; ROOM], at: usize, state: State) -> usize {
     let mode = state.mode;
     let lci = state.lci;
     let lpa = state.lpa;
@@ -131,14 +123,14 @@ fn columns(out: &mut [u8; 4096], at: usize, state: State) -> usize {
     column(out, at, state.count as u64)
 }
 
-fn column(out: &mut [u8; 4096], at: usize, n: u64) -> usize {
+fn column(out: &mut [u8; ROOM], at: usize, n: u64) -> usize {
     let at = words::byte(STDOUT_FILENO, out, at, b' ');
     words::number(STDOUT_FILENO, out, at, n)
 }
 
 // The sentence at the end, for people.
 fn sum_up(reader: Reader) {
-    let mut line = [0u8; 4096];
+    let mut line = [0u8; ROOM];
     let state = reader.state;
     let at = say(&mut line, 0, b"desk: the instrument is in mode ");
     let mode = state.mode;
@@ -148,11 +140,11 @@ fn sum_up(reader: Reader) {
     words::flush(STDERR_FILENO, &line, at);
 }
 
-fn say(line: &mut [u8; 4096], at: usize, s: &[u8]) -> usize {
+fn say(line: &mut [u8; ROOM], at: usize, s: &[u8]) -> usize {
     words::text(STDERR_FILENO, line, at, s)
 }
 
-fn say_mode(line: &mut [u8; 4096], at: usize, mode: Mode) -> usize {
+fn say_mode(line: &mut [u8; ROOM], at: usize, mode: Mode) -> usize {
     match mode {
         Mode::Boot => say(line, at, b"BOOT"),
         Mode::Terminal => say(line, at, b"TERMINAL"),
@@ -164,7 +156,7 @@ fn say_mode(line: &mut [u8; 4096], at: usize, mode: Mode) -> usize {
     }
 }
 
-fn say_event(line: &mut [u8; 4096], at: usize, count: u32) -> usize {
+fn say_event(line: &mut [u8; ROOM], at: usize, count: u32) -> usize {
     if count == 0 {
         return say(line, at, b" before any event");
     }
@@ -172,7 +164,7 @@ fn say_event(line: &mut [u8; 4096], at: usize, count: u32) -> usize {
     words::number(STDERR_FILENO, line, at, count as u64)
 }
 
-fn say_behind(line: &mut [u8; 4096], at: usize, reader: Reader) -> usize {
+fn say_behind(line: &mut [u8; ROOM], at: usize, reader: Reader) -> usize {
     if reader.heard <= reader.next {
         return say(line, at, b", and the desk is not behind.\n");
     }

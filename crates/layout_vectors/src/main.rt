@@ -40,7 +40,7 @@ fn by_hand(used: u8) -> [u8; 512] {
     block[23] = 0x1D;
     block[25] = 0x01;
     block[29] = 0x08;
-    let check = bit_by_bit(&block[..510]);
+    let check = frame_check::check(&block[..510]);
     block[510] = (check / 256) as u8;
     block[511] = (check % 256) as u8;
     block
@@ -320,26 +320,4 @@ fn yes_or_no(name: &[u8], expected: bool, found: bool) {
     } else {
         io::write_all(STDOUT_FILENO, b"DIFFERENT\n");
     }
-}
-
-// The check as the standard draws it: one bit at a time.
-fn bit_by_bit(s: &[u8]) -> u16 {
-    let mut register: u16 = 0xFFFF;
-    for i in 0..s.len() {
-        register = byte_fed(register, s[i]);
-    }
-    register
-}
-
-// Eight bits, the highest first: what leaves the register comes back at x^12, x^5 and 1.
-fn byte_fed(register: u16, byte: u8) -> u16 {
-    let mut fed = register ^ ((byte as u16) << 8);
-    for _ in 0..8u32 {
-        fed = if fed >> 15 == 1 {
-            (fed << 1) ^ 0x1021
-        } else {
-            fed << 1
-        };
-    }
-    fed
 }

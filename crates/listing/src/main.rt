@@ -1,16 +1,14 @@
 // Events of 12 bytes through a fresh manager: a line an event (One listing, whole).
 use kinds::Answer;
 use kinds::State;
+use layout::EVENT;
 use layout::Head;
-use libc::STDIN_FILENO;
 use libc::STDOUT_FILENO;
 use manager::Manager;
-use manager::Stepped;
-
-const EVENT: usize = 12;
+use words::ROOM;
 
 // Many events at a time.
-const PIECE: usize = 12288;
+const PIECE: usize = 49152;
 
 // The manager, and how much of the output buffer is taken.
 struct Listed {
@@ -20,7 +18,15 @@ struct Listed {
 }
 
 fn main() {
-    let mut out = [0u8; 4096];
+    if words::none_given() {
+        list_all();
+    } else {
+        words::tell_use(b"listing: use: listing, events on standard input; it takes no words\n");
+    }
+}
+
+fn list_all() {
+    let mut out = [0u8; ROOM];
     let at = words::text(
         STDOUT_FILENO,
         &mut out,
@@ -32,7 +38,7 @@ fn main() {
 }
 
 // A proved loop has to end, and nothing says that the input does: the turns are counted down from a number that no run uses up.
-fn all(out: &mut [u8; 4096], from: usize) -> usize {
+fn all(out: &mut [u8; ROOM], from: usize) -> usize {
     let mut manager = manager::fresh(0);
     let mut at = from;
     let mut turns = u64::MAX;
@@ -48,21 +54,22 @@ fn all(out: &mut [u8; 4096], from: usize) -> usize {
     at
 }
 
-// Reads a piece and lists its events. A piece that is not full is the last.
-fn turn(manager: Manager, out: &mut [u8; 4096], at: usize) -> Listed {
-    let mut piece = [0u8; 12288];
-    let n = io::read_full(STDIN_FILENO, &mut piece);
+// Reads a piece, lists its events and writes the lines out, since who reads a live feed waits for them.
+fn turn(manager: Manager, out: &mut [u8; ROOM], at: usize) -> Listed {
+    let mut piece = [0u8; PIECE];
+    let n = words::fill(&mut piece, EVENT);
     let listed = list(manager, &piece[..n], out, at);
     let manager = listed.manager;
+    let at = words::flush(STDOUT_FILENO, out, listed.at);
     Listed {
         manager,
-        at: listed.at,
-        more: n == PIECE,
+        at,
+        more: words::reads_on(n, EVENT, at),
     }
 }
 
 // The events of a piece; what is left at its end is shorter than an event.
-fn list(first: Manager, piece: &[u8], out: &mut [u8; 4096], from: usize) -> Listed {
+fn list(first: Manager, piece: &[u8], out: &mut [u8; ROOM], from: usize) -> Listed {
     let mut manager = first;
     let mut at = from;
     let mut i: usize = 0;
@@ -80,7 +87,7 @@ fn list(first: Manager, piece: &[u8], out: &mut [u8; 4096], from: usize) -> List
     }
 }
 
-fn one(manager: Manager, event: &[u8], out: &mut [u8; 4096], at: usize) -> Listed {
+fn one(manager: Manager, event: &[u8], out: &mut [u8; ROOM], at: usize) -> Listed {
     let mut lent = [0u8; 512];
     let before = manager.head;
     let stepped = manager::step(manager, event, &mut lent);
@@ -113,14 +120,14 @@ fn added(before: Head, after: Head, written: bool) -> u64 {
 }
 
 // The number of an event that is in the log.
-fn event_number(out: &mut [u8; 4096], at: usize, answer: Answer, count: u32) -> usize {
+fn event_number(out: &mut [u8; ROOM], at: usize, answer: Answer, count: u32) -> usize {
     match answer {
         Answer::Taken(_) => words::number(STDOUT_FILENO, out, at, count as u64),
         _ => words::byte(STDOUT_FILENO, out, at, b'-'),
     }
 }
 
-fn columns(out: &mut [u8; 4096], at: usize, state: State) -> usize {
+fn columns(out: &mut [u8; ROOM], at: usize, state: State) -> usize {
     let mode = state.mode;
     let lci = state.lci;
     let lpa = state.lpa;
@@ -133,7 +140,7 @@ fn columns(out: &mut [u8; 4096], at: usize, state: State) -> usize {
     column(out, at, state.armed as u64)
 }
 
-fn column(out: &mut [u8; 4096], at: usize, n: u64) -> usize {
+fn column(out: &mut [u8; ROOM], at: usize, n: u64) -> usize {
     let at = words::byte(STDOUT_FILENO, out, at, b' ');
     words::number(STDOUT_FILENO, out, at, n)
 }

@@ -1,1 +1,3 @@
+pub mod CopyLaws
+pub mod InputLaws
 pub mod NumeralLaws

@@ -1,54 +1,109 @@
-// Text and numbers, put into a buffer that is written out whenever it is full. `at` is how much of it is taken.
+// Text and numbers, put into a buffer that is written out whenever it is full. `at` is how much of it is taken, or BROKEN.
+ghost use Prim.Native.Nat.{_≤_, _<_, _+_};
 ghost use mathlib.Core.Path.{_≡_};
-ghost use Prim.Native.Nat.{_≤_, max};
+ghost use lib.ListN.{length, set};
+ghost use lib.Seq.{paste};
+ghost use Rattle.words.specs.Put.{Placed};
+use crate::output::write_whole;
 
-const SIZE: usize = 4096;
+// The buffer's length.
+pub const ROOM: usize = 65536;
+
+// In place of how much is taken: a write has failed and was told, and nothing more is put or written.
+pub const BROKEN: usize = 65537;
 
 // One byte more. A buffer that is full is written out first.
-pub fn byte(fd: i32, out: &mut [u8; 4096], at: usize, b: u8) -> usize
-    ensures { λ r. ⌜ r ≤ 4096 ⌝ }
+pub fn byte(fd: i32, out: &mut [u8; ROOM], at: usize, b: u8) -> usize
+    ensures { λ r. ⌜ r ≤ 65537 ⌝ }
+    ensures { λ r. ⌜ (at < 65536 → (r ≡ at + 1) × (now (out .exit) ≡ set (now (out .entry)) at b)) ⌝ }
+    ensures { λ r. ⌜ (65536 < at → r ≡ 65537) ⌝ }
 {
-    if at < SIZE {
+    if at < ROOM {
         out[at] = b;
         return at + 1;
     }
-    io::write_all(fd, out);
+    if flush(fd, out, at) == BROKEN {
+        return BROKEN;
+    }
     out[0] = b;
     1
 }
 
-pub fn text(fd: i32, out: &mut [u8; 4096], at: usize, s: &[u8]) -> usize
-    ensures { λ r. ⌜ r ≤ max at 4096 ⌝ }
+// A text more. Where it does not fit, the buffer is written out first; a text longer than the buffer goes straight out.
+pub fn text(fd: i32, out: &mut [u8; ROOM], at: usize, s: &[u8]) -> usize
+    ensures { λ r. ⌜ r ≤ 65537 ⌝ }
+    ensures { λ r. ⌜ Placed (now (out .entry)) at (now (s .entry)) r (now (out .exit)) ⌝ }
+    ensures { λ r. ⌜ (65536 < at → r ≡ 65537) ⌝ }
 {
-    let mut to = at;
-    let mut i: usize = 0;
-    while i < s.len() {
-        to = byte(fd, out, to, s[i]);
-        i += 1;
+    if at > ROOM {
+        return BROKEN;
     }
-    to
+    if s.len() > ROOM - at {
+        return text_next(fd, out, at, s);
+    }
+    copy(s, out, at);
+    at + s.len()
+}
+
+// A text that does not fit behind what is there.
+fn text_next(fd: i32, out: &mut [u8; ROOM], at: usize, s: &[u8]) -> usize
+    ensures { λ r. ⌜ r ≤ 65537 ⌝ }
+{
+    if flush(fd, out, at) == BROKEN {
+        return BROKEN;
+    }
+    if s.len() > ROOM {
+        return after(write_whole(fd, s));
+    }
+    copy(s, out, 0);
+    s.len()
 }
 
 // A number in decimal.
-pub fn number(fd: i32, out: &mut [u8; 4096], at: usize, n: u64) -> usize
-    ensures { λ r. ⌜ r ≤ max at 4096 ⌝ }
+pub fn number(fd: i32, out: &mut [u8; ROOM], at: usize, n: u64) -> usize
+    ensures { λ r. ⌜ r ≤ 65537 ⌝ }
+    ensures { λ r. ⌜ (65536 < at → r ≡ 65537) ⌝ }
 {
+    if n < 10 {
+        return byte(fd, out, at, b'0' + n as u8);
+    }
     let mut digits = [0u8; 20];
     let k = io::decimal(n, &mut digits);
     text(fd, out, at, &digits[..k])
 }
 
 // Writes out what the buffer has; nothing of it is taken then.
-pub fn flush(fd: i32, out: &[u8; 4096], at: usize) -> usize
-    ensures { λ r. ⌜ r ≡ 0 ⌝ }
+pub fn flush(fd: i32, out: &[u8; ROOM], at: usize) -> usize
+    ensures { λ r. ⌜ r ≤ 65537 ⌝ }
+    ensures { λ r. ⌜ (65536 < at → r ≡ 65537) ⌝ }
 {
-    write_part(fd, out, at);
-    0
+    if at > ROOM {
+        return BROKEN;
+    }
+    after(write_first(fd, out, at))
 }
 
-fn write_part(fd: i32, out: &[u8], at: usize) -> bool {
-    if out.len() <= at {
-        return io::write_all(fd, out);
+fn write_first(fd: i32, out: &[u8], at: usize) -> bool
+    requires { ⌜ at ≤ length (now out) ⌝ }
+{
+    write_whole(fd, &out[..at])
+}
+
+// How much of the buffer is taken after a write, by whether it went.
+fn after(went: bool) -> usize
+    ensures { λ r. ⌜ r ≤ 65537 ⌝ }
+{
+    if went { 0 } else { BROKEN }
+}
+
+// A plain loop, of which the compiler makes one move of memory.
+fn copy(s: &[u8], out: &mut [u8], at: usize)
+    requires { ⌜ at + length (now s) ≤ length (now out) ⌝ }
+    ensures { λ _. ⌜ now (out .exit) ≡ paste (now (out .entry)) at (now (s .entry)) (length (now (s .entry))) ⌝ }
+{
+    let mut i: usize = 0;
+    while i < s.len() {
+        out[at + i] = s[i];
+        i += 1;
     }
-    io::write_all(fd, &out[..at])
 }

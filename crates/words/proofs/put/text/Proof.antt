@@ -1,48 +1,27 @@
--- `put::text`: each byte leaves the place within the buffer.
--- Assumes nothing.
+-- `put::text`, case by case. Assumes nothing.
 use borrow.Author.Needs.{needs}
-use Prim.Native.Nat.{_≤_, _-_, max}
-use lib.ListN.{length}
+use native.Mathlib.Omega.{arith}
 use Rattle.words.proofs.put.text.Statement.{statement}
 use Rattle.words.proofs.put.text.Tie as tie
 
-abbrev Inv-loop : tie.InvT-loop
-Inv-loop fd out₀ at s to₀ i₀ out to i = (i ≤ length s) × (to ≤ max at 4096)
+returns : tie.Need-returns
+returns c = (search needs, (λ h. absurd (omega arith), λ h. search needs))
 
-abbrev μ-loop : tie.MeasureT-loop
-μ-loop fd out₀ at s to₀ i₀ out to i = length s - i
+text-next-requires : tie.Need-text-next-requires
+text-next-requires c κs = search needs
 
-loop-holds : tie.Need-loop-holds Inv-loop μ-loop
-loop-holds c = search needs
+returns-2 : tie.Need-returns-2
+returns-2 c = (search needs, (λ h. absurd (omega arith), λ h. absurd (omega arith)))
 
-shared-slice-read-byte : tie.Need-shared-slice-read-byte Inv-loop μ-loop
-shared-slice-read-byte c = search needs
+copy-requires : tie.Need-copy-requires
+copy-requires c κs = search needs
 
-byte-requires : tie.Need-byte-requires Inv-loop μ-loop
-byte-requires c κs = search needs
+add-result : tie.Need-add-result
+add-result c = search needs
 
-add-i : tie.Need-add-i Inv-loop μ-loop
-add-i c = search needs
-
-loop-less : tie.Need-loop-less Inv-loop μ-loop
-loop-less c = search needs
-
-loop-again : tie.Need-loop-again Inv-loop μ-loop
-loop-again c = search needs
-
-returns : tie.Need-returns Inv-loop μ-loop
-returns c = search needs
+returns-3 : tie.Need-returns-3
+returns-3 c = (search needs, (λ h. (search needs, search needs), λ h. absurd (omega arith)))
 
 pub text-spec : {M : Type 1} → statement M
 text-spec =
-    tie.close
-    (tie.spec
-    Inv-loop
-    μ-loop
-    loop-holds
-    shared-slice-read-byte
-    byte-requires
-    add-i
-    loop-less
-    loop-again
-    returns)
+    tie.close (tie.spec returns text-next-requires returns-2 copy-requires add-result returns-3)
