@@ -122,27 +122,25 @@ fn write(space: &[u8], length: usize, number: u64, out: &mut [u8; ROOM], at: usi
 
 fn tell(number: u64, expected: Expected) {
     match expected {
-        Expected::Name => wrong(number, b"an event's name, as TOOSTART, or raw\n"),
-        Expected::None => wrong(number, b"no number after this event's name\n"),
+        Expected::Name => wrong(number, b": expected an event's name, as TOOSTART, or raw\n"),
+        Expected::None => wrong(number, b": expected no number after this event's name\n"),
         Expected::One => wrong(
             number,
-            b"one number, 0 to 4294967295, after this event's name\n",
+            b": expected one number, 0 to 4294967295, after this event's name\n",
         ),
         Expected::Two => wrong(
             number,
-            b"two numbers, 0 to 4294967295, after this event's name\n",
+            b": expected two numbers, 0 to 4294967295, after this event's name\n",
         ),
-        Expected::Report => wrong(number, b"1, good, or 0, failed, after this event's name\n"),
-        Expected::Raw => wrong(number, b"24 hex digits after raw\n"),
-        Expected::Short => wrong(number, b"a line of at most 256 bytes\n"),
+        Expected::Report => wrong(
+            number,
+            b": expected 1, good, or 0, failed, after this event's name\n",
+        ),
+        Expected::Raw => wrong(number, b": expected 24 hex digits after raw\n"),
+        Expected::Short => wrong(number, b": expected a line of at most 256 bytes\n"),
     }
 }
 
 fn wrong(number: u64, expected: &[u8]) {
-    let mut said = [0u8; ROOM];
-    let at = words::text(STDERR_FILENO, &mut said, 0, b"assemble: line ");
-    let at = words::number(STDERR_FILENO, &mut said, at, number);
-    let at = words::text(STDERR_FILENO, &mut said, at, b": expected ");
-    let at = words::text(STDERR_FILENO, &mut said, at, expected);
-    words::flush(STDERR_FILENO, &said, at);
+    words::tell(b"assemble: line ", number, expected);
 }

@@ -6,6 +6,7 @@ mod numeral;
 mod output;
 mod put;
 mod retry;
+mod told;
 
 pub use arguments::none_given;
 pub use arguments::only_number;
@@ -23,3 +24,4 @@ pub use put::byte;
 pub use put::flush;
 pub use put::number;
 pub use put::text;
+pub use told::tell;

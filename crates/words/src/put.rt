@@ -83,7 +83,7 @@ pub fn flush(fd: i32, out: &[u8; ROOM], at: usize) -> usize
     after(write_first(fd, out, at))
 }
 
-fn write_first(fd: i32, out: &[u8], at: usize) -> bool
+pub(crate) fn write_first(fd: i32, out: &[u8], at: usize) -> bool
     requires { ⌜ at ≤ length (now out) ⌝ }
 {
     write_whole(fd, &out[..at])
@@ -97,7 +97,7 @@ fn after(went: bool) -> usize
 }
 
 // A plain loop, of which the compiler makes one move of memory.
-fn copy(s: &[u8], out: &mut [u8], at: usize)
+pub(crate) fn copy(s: &[u8], out: &mut [u8], at: usize)
     requires { ⌜ at + length (now s) ≤ length (now out) ⌝ }
     ensures { λ _. ⌜ now (out .exit) ≡ paste (now (out .entry)) at (now (s .entry)) (length (now (s .entry))) ⌝ }
 {
