@@ -21,4 +21,5 @@ pub use event::read_event;
 pub use record::RECORD;
 pub use record::read_record;
 pub use record::record_bytes;
+pub use record::status_bytes;
 pub use zeros::zeros_between;

@@ -28,11 +28,10 @@ use crate::too::too_abort;
 use crate::too::too_expired;
 use crate::too::too_start;
 use draft::Ruling;
-use draft::followed;
+use draft::closed;
 use draft::records_0;
 use kinds::Event;
 use kinds::Mode;
-use kinds::Record;
 use kinds::State;
 use kinds::Status;
 
@@ -42,15 +41,7 @@ pub fn ruled(state: State, event: Event) -> Ruling
     ensures { λ r. ⌜ r ≡ rulingOf state event ⌝ }
 {
     let said = heard(state, event);
-    let status = said.status;
-    let number = kinds::one_more(state.count);
-    followed(
-        said,
-        Record::Status {
-            status,
-            event: number,
-        },
-    )
+    closed(said, kinds::one_more(state.count))
 }
 
 fn heard(s: State, event: Event) -> Ruling

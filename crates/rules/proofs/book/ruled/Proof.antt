@@ -14,4 +14,4 @@ ruled-spec =
     (λ c κs. search needs)
     (λ c κs. search needs)
     (λ c κs. search needs)
-    (λ c. closed _ _ _ _ _ (c .before .before .heard .ensures) (c .before .one-more .ensures) (c .followed .ensures)))
+    (λ c. closed _ _ _ _ _ (c .before .before .heard .ensures) (c .before .one-more .ensures) (c .closed .ensures)))
