@@ -1,4 +1,4 @@
-// One line of the text: a name of 01's and its numbers, or raw and 24 hex digits. `#` starts a comment.
+// One line of the text: a name of 01's and its numbers, or raw and 24 hex digits.
 ghost use Prim.Native.Nat.{_≤_};
 ghost use lib.ListN.{length};
 use crate::names;
@@ -41,7 +41,6 @@ fn read_before(space: &[u8], end: usize) -> Line
     requires { ⌜ end ≤ length (now space) ⌝ }
 {
     let start: usize = 0;
-    let end = comment(space, end);
     read_text(&space[start..end])
 }
 
@@ -179,21 +178,6 @@ fn pairs(digits: &[u8]) -> Line {
         kind: Kind::Event,
         bytes,
     }
-}
-
-// Where the comment begins, or the line ends.
-fn comment(line: &[u8], end: usize) -> usize
-    requires { ⌜ end ≤ length (now line) ⌝ }
-    ensures { λ r. ⌜ r ≤ length (now (line .entry)) ⌝ }
-{
-    let mut i: usize = 0;
-    while i < end {
-        if line[i] == b'#' {
-            return i;
-        }
-        i += 1;
-    }
-    end
 }
 
 // The first place from here on whose byte is no separator, or is one.

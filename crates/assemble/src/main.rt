@@ -2,7 +2,6 @@
 mod line;
 mod names;
 
-use libc::STDERR_FILENO;
 use libc::STDOUT_FILENO;
 use line::Expected;
 use line::Kind;
@@ -10,10 +9,12 @@ use words::ROOM;
 
 const PIECE: usize = 65536;
 
-// How much of the line has come, whether it is too long, its number, and how much of the output buffer is taken.
+// How much of the line has come before its comment, whether that is too long, whether the comment has begun, the line's number, and how
+// much of the output buffer is taken.
 struct Text {
     length: usize,
     long: bool,
+    comment: bool,
     number: u64,
     at: usize,
     more: bool,
@@ -42,6 +43,7 @@ fn all(space: &mut [u8; 256], out: &mut [u8; ROOM]) -> Text {
     let mut text = Text {
         length: 0,
         long: false,
+        comment: false,
         number: 1,
         at: 0,
         more: true,
@@ -81,7 +83,14 @@ fn take(text: Text, b: u8, space: &mut [u8; 256], out: &mut [u8; ROOM]) -> Text 
     if b == b'\n' {
         return finish(text, space, out);
     }
+    if text.comment {
+        return text;
+    }
     let mut after = text;
+    if b == b'#' {
+        after.comment = true;
+        return after;
+    }
     let length = text.length;
     if length < 256 {
         space[length] = b;
@@ -102,6 +111,7 @@ fn finish(text: Text, space: &mut [u8; 256], out: &mut [u8; ROOM]) -> Text {
     }
     after.length = 0;
     after.long = false;
+    after.comment = false;
     after.number = std::num::wrapping_add_u64(text.number, 1);
     after
 }
@@ -137,7 +147,10 @@ fn tell(number: u64, expected: Expected) {
             b": expected 1, good, or 0, failed, after this event's name\n",
         ),
         Expected::Raw => wrong(number, b": expected 24 hex digits after raw\n"),
-        Expected::Short => wrong(number, b": expected a line of at most 256 bytes\n"),
+        Expected::Short => wrong(
+            number,
+            b": expected a line of at most 256 bytes before its comment\n",
+        ),
     }
 }
 

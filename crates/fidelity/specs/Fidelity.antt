@@ -6,10 +6,10 @@
 -- number, which sees no commands, is then given any list of strings: blocks of that run, lost, repeated or out of order, and between
 -- them strays: strings of another length, with a wrong check, or with another log number.
 --
--- Then (a) the state that the reader shows is the one that the manager had right after the event that it names: shown;
+-- Then (a) the reader shows an event's number and a state, and the manager was in that state when that event was closed: shown;
 --      (b) it says that it is behind exactly if some block of the run was delivered and at no delivery answered APPLIED: behind;
---      (c) once the run's blocks have come in their order, whatever came between, it shows the state after the last event in them,
---          and the fresh state if there are none: complete.
+--      (c) once the run's blocks have come in their order, whatever came between, the state shown is that of their last event, and the
+--          fresh state if there are none: complete.
 -- The operations and the delivery are any, so each of the three holds at every moment.
 --
 -- `runOf` and `groundOf` are folds of `stepped`, `flushedOf` and `readOf`, the definitions that the contracts of `manager::step`,

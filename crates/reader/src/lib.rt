@@ -1,4 +1,4 @@
-// The ground reader: rebuilds the state from the log alone (The ground reader).
+// The ground reader: the instrument's state, from nothing but its log (The ground reader).
 mod content;
 mod reader;
 mod reply;

@@ -1,5 +1,5 @@
 // Standard input in whole groups: each as it comes from a live feed, many at a time from a file.
-ghost use Prim.Native.Nat.{_≤_};
+ghost use Prim.Native.Nat.{_≤_, _<_};
 ghost use mathlib.Core.Path.{_≡_};
 ghost use lib.ListN.{length};
 ghost use Rattle.io.specs.Counts.{Counts};
@@ -8,14 +8,15 @@ use crate::put::ROOM;
 use crate::retry::passes;
 use libc::STDIN_FILENO;
 
-// Reads until what came is whole groups of a size (0 counts as 1), the buffer is full, or the input ends or fails, and answers how
-// many bytes came. 0, or a count that is not whole groups, says that the input has ended. A failure is told.
+// Reads once, and then what the last group still lacks (a size of 0 counts as 1), until what came is whole groups, the buffer is full,
+// or the input ends or fails; answers how many bytes came. 0, or a count that is not whole groups, says that the input has ended. A failure is told.
 pub fn fill(buf: &mut [u8], size: usize) -> usize
     ensures { λ r. ⌜ Counts r (now (buf .exit)) ⌝ }
 {
     let mut done: usize = 0;
     while done < buf.len() {
-        let more = read_some(&mut buf[done..]);
+        let end = wanted(done, size, buf.len());
+        let more = read_some(&mut buf[done..end]);
         if more == 0 {
             return done;
         }
@@ -25,6 +26,25 @@ pub fn fill(buf: &mut [u8], size: usize) -> usize
         }
     }
     done
+}
+
+// Up to where to read, after so many bytes: as far as the buffer goes at first, and then to the end of the group that was begun.
+fn wanted(done: usize, size: usize, long: usize) -> usize
+    requires { ⌜ done < long ⌝ }
+    ensures { λ r. ⌜ (done < r) × (r ≤ long) ⌝ }
+{
+    if done == 0 {
+        return long;
+    }
+    if size == 0 {
+        return long;
+    }
+    let lacking = size - done % size;
+    if long - done < lacking {
+        long
+    } else {
+        done + lacking
+    }
 }
 
 // Whether to read on after so many bytes, with so much of the output's buffer taken.

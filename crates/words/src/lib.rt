@@ -1,4 +1,5 @@
-// What the programs share: the words they are called with, input in groups, text and numbers written through a buffer of the caller's, and numbers read from words.
+// What the programs share: the words they are called with, input in groups, text and numbers written through a buffer of the caller's,
+// and numbers read from words.
 mod arguments;
 mod group;
 mod input;

@@ -76,6 +76,7 @@ pub fn number(fd: i32, out: &mut [u8; ROOM], at: usize, n: u64) -> usize
 pub fn flush(fd: i32, out: &[u8; ROOM], at: usize) -> usize
     ensures { λ r. ⌜ r ≤ 65537 ⌝ }
     ensures { λ r. ⌜ (65536 < at → r ≡ 65537) ⌝ }
+    ensures { λ r. ⌜ (r < 65537 → r ≡ 0) ⌝ }
 {
     if at > ROOM {
         return BROKEN;
@@ -92,6 +93,7 @@ pub(crate) fn write_first(fd: i32, out: &[u8], at: usize) -> bool
 // How much of the buffer is taken after a write, by whether it went.
 fn after(went: bool) -> usize
     ensures { λ r. ⌜ r ≤ 65537 ⌝ }
+    ensures { λ r. ⌜ (r < 65537 → r ≡ 0) ⌝ }
 {
     if went { 0 } else { BROKEN }
 }

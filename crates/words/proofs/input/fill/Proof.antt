@@ -16,6 +16,9 @@ abbrev μ-loop : tie.MeasureT-loop
 loop-holds : tie.Need-loop-holds Inv-loop μ-loop
 loop-holds c = search needs
 
+wanted-requires : tie.Need-wanted-requires Inv-loop μ-loop
+wanted-requires c κs = search needs
+
 sub-read-some : tie.Need-sub-read-some Inv-loop μ-loop
 sub-read-some c = search needs
 
@@ -65,6 +68,7 @@ fill-spec =
     Inv-loop
     μ-loop
     loop-holds
+    wanted-requires
     sub-read-some
     part-read-some-start
     part-read-some-end

@@ -23,7 +23,7 @@ element-write-out-2 : tie.Need-element-write-out-2
 element-write-out-2 c = search needs
 
 returns-3 : tie.Need-returns-3
-returns-3 c = (search needs, (λ h. absurd (omega arith), λ h. absurd (c .if2 .left (c .before .flush .ensures .1 h))))
+returns-3 c = (search needs, (λ h. absurd (omega arith), λ h. absurd (c .if2 .left (c .before .flush .ensures .1 .0 h))))
 
 pub byte-spec : {M : Type 1} → statement M
 byte-spec =
