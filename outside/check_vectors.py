@@ -17,6 +17,8 @@ import sys
 
 SEED = 20261115
 EACH_LENGTH = 3
+# Seconds. A guard against a program that hangs, and no test of speed: the run takes a second or less.
+PATIENCE = 120
 
 
 def runner(program):
@@ -60,7 +62,7 @@ def main():
     program = os.path.realpath(sys.argv[1])
     given = strings()
     data = b"".join(len(s).to_bytes(2, "big") + s for s in given)
-    ended = subprocess.run(runner(program) + [program], input=data, stdout=subprocess.PIPE, timeout=120)
+    ended = subprocess.run(runner(program) + [program], input=data, stdout=subprocess.PIPE, timeout=PATIENCE)
     found = ended.stdout.decode("ascii", "replace").split("\n")
     expected = ["%04x" % binascii.crc_hqx(s, 0xFFFF) for s in given] + [""]
     assert expected[0] == "29b1", "the published vector"

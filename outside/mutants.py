@@ -53,6 +53,8 @@ MUTANTS = [
     ("old records stay in a new block", "log.rs", "            before: count,\n            area: [0; 496],", "            before: count,\n            area: self.area,"),
     ("check inverted", "log.rs", "    register\n}", "    !register\n}"),
     ("no flush at the end", "expected.rs", "if log::flush(&m, &mut lent).written {", "if m.log.used > 1 && log::flush(&m, &mut lent).written {"),
+    # fails for some prefixes and not for longer ones, so that halving alone does not find the shortest
+    ("loses a last block of 30 to 33", "expected.rs", "if log::flush(&m, &mut lent).written {", "if !(m.log.block > 0 && (30..=33).contains(&m.log.used)) && log::flush(&m, &mut lent).written {"),
     ("short last group dropped", "expected.rs", "for group in input.chunks(12) {\n        let records_before", "for group in input.chunks_exact(12) {\n        let records_before"),
     # the reader
     ("GAP does not raise heard", "reader.rs", "let reader = Reader { heard, ..r.clone() };", "let reader = r.clone();"),
@@ -143,7 +145,7 @@ def main():
         ended = limited([DRIVER, folder])
         lines = ended.stdout.split("\n")
         told = [line for line in lines if "disagrees with" in line]
-        told += [line.split(" groups")[0] for line in lines if line.startswith("the shortest prefix")]
+        told += [line.split(" groups")[0] for line in lines if line.startswith(("the shortest prefix", "a prefix that fails"))]
         seen = ended.returncode == 1 and lines[-2:] == ["FAILED", ""]
         right = seen != (name in HARMLESS)
         if name in BY_ITSELF:

@@ -173,7 +173,7 @@ pub const END: u32 = 4_294_967_295;
 pub const DWELL_MOST: u32 = 86_400;
 /// 01 Records, ranges: the one alert.
 pub const ALERT_SHED: u16 = 0x346;
-/// 01 Records: "There are never more than 10", the STATUS counted (DESIGN, decisions).
+/// 01 Records: the most that an event can have, its STATUS counted (D-7).
 pub const RECORDS_MOST: usize = 10;
 
 /// 01 State. The log's own fields stand in `log::Log`.
@@ -230,7 +230,7 @@ impl Event {
             1..=23 => (false, false),
             _ => return None,
         };
-        // "A field not named here is 0": the u16 and every unnamed a and b (DESIGN, decisions).
+        // Zero fields: the second u16, and a or b wherever the table gives it no meaning (D-1).
         if zero != 0 || (!a_named && a != 0) || (!b_named && b != 0) {
             return None;
         }

@@ -1,5 +1,5 @@
-//! An independent model of document 01, written from the paper alone, and what is needed to hold the
-//! programs `listing`, `flight` and `desk` to it. The first four modules are the model.
+//! A model of document 01, written without a look at the crates (D-n: docs/DECISIONS.md), and what is
+//! needed to hold the programs `listing`, `flight` and `desk` to it. The first four modules are the model.
 
 pub mod kinds;
 pub mod log;
@@ -11,5 +11,6 @@ pub mod expected;
 pub mod forge;
 pub mod programs;
 pub mod shapes;
+pub mod shrink;
 pub mod streams;
 pub mod walk;

@@ -8,12 +8,13 @@ use std::io::{Read, Write};
 use std::path::Path;
 use std::time::{Duration, Instant};
 
-use outside::demand3::{self, Op};
+use outside::demand3::{self, hex, Op};
 use outside::forge::Forger;
 use outside::kinds::*;
 use outside::programs::{Output, Programs, PATIENCE, PATIENCE_SHORT};
 use outside::shapes::{edges, shape_of, Graph};
-use outside::streams::{self, Random, Sender, Source, Style, STYLES};
+use outside::shrink::{self, Fault, Kind};
+use outside::streams::{self, Random, Sender, Style, STYLES};
 use outside::walk::{self, Combination};
 use outside::{expected, log, rules};
 
@@ -21,6 +22,8 @@ const USAGE: &str = "usage: outside FOLDER   (the folder with listing, flight an
        outside model    (the model alone)";
 const SEED: u64 = 0x0100_2026_1115_0001;
 const STREAMS: usize = 200;
+/// How long prefixes of a failing input are tried one by one.
+const SEARCH: Duration = Duration::from_secs(60);
 
 fn main() {
     let args: Vec<String> = std::env::args().skip(1).collect();
@@ -202,68 +205,78 @@ impl Driver {
             return Ok(());
         }
         self.tally.starts += 1;
-        let Err(what) = self.once(case, input, PATIENCE) else {
+        let Err(fault) = self.once(case, input, PATIENCE) else {
             return Ok(());
         };
-        // The shortest prefix that still fails: this one fails, and with one group less it does not.
         let groups = input.len().div_ceil(case.group);
         let cut = |n: usize| &input[..(n * case.group).min(input.len())];
-        let (mut good, mut bad) = (0, groups);
-        if self.once(case, cut(0), PATIENCE_SHORT).is_err() {
-            bad = 0;
-        }
-        while good + 1 < bad {
-            let middle = (good + bad) / 2;
-            if self.once(case, cut(middle), PATIENCE_SHORT).is_err() {
-                bad = middle;
-            } else {
-                good = middle;
-            }
-        }
-        let short = self
-            .once(case, cut(bad), PATIENCE_SHORT)
-            .err()
-            .unwrap_or(what);
-        Err(format!(
-            "{}: {} {} disagrees with the model\n{short}\nthe shortest prefix that fails, {bad} of {groups} groups of {} bytes, in hex:\n{}",
+        let of_whole = fault.told.clone();
+        let short = shrink::shortest(groups, fault, SEARCH, |n| {
+            self.once(case, cut(n), PATIENCE_SHORT)
+        });
+        let mut told = format!(
+            "{}: {} {} disagrees with the model\n{}\n",
             case.title,
             case.name,
             case.args.join(" "),
+            short.fault.told
+        );
+        if short.fault.kind == Kind::Late {
+            told += &format!("the whole input: {of_whole}\n");
+        }
+        if let Some((n, fault)) = &short.other {
+            let line = fault.told.lines().next().unwrap_or_default();
+            told += &format!("another fault with its first {n} groups: {line}\n");
+        }
+        if short.certain() {
+            told += "the shortest prefix that fails";
+        } else {
+            told += &format!(
+                "a prefix that fails (a shorter one may exist: {} were not tried within {} s, {} did not end within {} s)",
+                short.untried,
+                SEARCH.as_secs(),
+                short.late,
+                PATIENCE_SHORT.as_secs()
+            );
+        }
+        Err(format!(
+            "{told}, {} of {groups} groups of {} bytes, in hex:\n{}",
+            short.groups,
             case.group,
-            hex(cut(bad))
+            hex(cut(short.groups))
         ))
     }
 
-    fn once(&self, case: &Case, input: &[u8], patience: Duration) -> Result<(), String> {
+    fn once(&self, case: &Case, input: &[u8], patience: Duration) -> Result<(), Fault> {
         let Some(programs) = &self.programs else {
             return Ok(());
         };
-        let number = case
-            .args
-            .first()
-            .and_then(|word| expected::log_number(word));
+        let number = match case.args.first() {
+            Some(word) => expected::log_number(word).expect("the driver's own LOG"),
+            None => 0, // listing
+        };
         let args: Vec<&str> = case.args.iter().map(String::as_str).collect();
         let output = programs.run(case.name, &args, input, case.pieces, patience)?;
         match case.name {
             "listing" => same_text(expected::listing(input).as_bytes(), &output.stdout)?,
             "desk" => {
-                let number = number.ok_or("no log number")?;
                 same_text(expected::desk(input, number).as_bytes(), &output.stdout)?;
                 told_something(&output, "its sentence at the end")?;
             }
             _ => {
-                let flight = expected::flight(input, number.ok_or("no log number")?);
+                let flight = expected::flight(input, number);
                 same_blocks(&flight.blocks, &output.stdout)?;
                 if flight.refusals > 0 {
                     told_something(&output, "the refusals")?;
                 }
             }
         }
-        match output.status {
-            Some(0) => Ok(()),
-            Some(status) => Err(format!("it ended with status {status}")),
-            None => Err("it was ended by a signal".to_string()),
-        }
+        let told = match output.status {
+            Some(0) => return Ok(()),
+            Some(status) => format!("it ended with status {status}"),
+            None => "it was ended by a signal".to_string(),
+        };
+        Err(Fault::new(Kind::Ending, told))
     }
 
     // -- document 01's example, and wrong words --
@@ -438,7 +451,10 @@ impl Driver {
         // with strings of any length among them; always with a flush at the end, as flight does.
         let between = n % 2 == 1;
         let ops = ops(&mut random, &input, between);
-        let run = demand3::run(number, &ops).map_err(|what| format!("{title}: {what}"))?;
+        let run = demand3::run(number, &ops).map_err(|(place, what)| {
+            let calls = demand3::told_calls(number, &ops[..=place]);
+            format!("{title}: call {place}: {what}\nthe shortest prefix that fails: {calls}")
+        })?;
         self.tally.blocks += run.blocks.len();
         if !between && run.blocks.concat() != expected::flight(&input, number).blocks {
             return Err(format!(
@@ -453,16 +469,13 @@ impl Driver {
             };
             let delivery = sender.delivery(&mut random);
             demand3::check(number, &run, &delivery).map_err(|(place, what)| {
-                let shown: Vec<String> = delivery[..(place + 1).min(delivery.len())]
-                    .iter()
-                    .map(|d| match d.source {
-                        Source::Own(block) => format!("block {block}: {}", hex(&d.bytes)),
-                        Source::Stray => format!("stray: {}", hex(&d.bytes)),
-                    })
-                    .collect();
+                let shown = &delivery[..(place + 1).min(delivery.len())];
+                // The delivery is the shortest prefix that fails, and so are the calls that made its blocks.
+                let needed = &ops[..demand3::calls_needed(&run, shown)];
                 format!(
-                    "{title}: demand 3 {what}\nthe delivery so far:\n{}",
-                    shown.join("\n")
+                    "{title}: demand 3 {what}\n{}{}",
+                    demand3::told_calls(number, needed),
+                    demand3::told_delivery(shown)
                 )
             })?;
             if any_length {
@@ -615,7 +628,7 @@ fn ops(random: &mut Random, input: &[u8], between: bool) -> Vec<Op> {
 
 // ---- comparing what was written ----
 
-fn same_text(expected: &[u8], found: &[u8]) -> Result<(), String> {
+fn same_text(expected: &[u8], found: &[u8]) -> Result<(), Fault> {
     if expected == found {
         return Ok(());
     }
@@ -626,17 +639,18 @@ fn same_text(expected: &[u8], found: &[u8]) -> Result<(), String> {
     for line in 1.. {
         let (model, program) = (by_model.next(), by_program.next());
         if model != program {
-            return Err(format!(
+            let told = format!(
                 "line {line} by the model:   {}\nline {line} by the program: {}",
                 model.unwrap_or("(no such line)"),
                 program.unwrap_or("(no such line)")
-            ));
+            );
+            return Err(Fault::new(Kind::Output, told));
         }
     }
     unreachable!("the texts differ in some line")
 }
 
-fn same_blocks(expected: &[u8], found: &[u8]) -> Result<(), String> {
+fn same_blocks(expected: &[u8], found: &[u8]) -> Result<(), Fault> {
     if expected == found {
         return Ok(());
     }
@@ -650,23 +664,21 @@ fn same_blocks(expected: &[u8], found: &[u8]) -> Result<(), String> {
         let from = (block * log::BLOCK).min(bytes.len());
         hex(&bytes[from..(from + log::BLOCK).min(bytes.len())])
     };
-    Err(format!(
+    let told = format!(
         "{} bytes by the model, {} by the program; first difference in block {block} at its byte {}\nby the model:   {}\nby the program: {}",
         expected.len(),
         found.len(),
         at % log::BLOCK,
         part(expected),
         part(found)
-    ))
+    );
+    Err(Fault::new(Kind::Output, told))
 }
 
-fn told_something(output: &Output, what: &str) -> Result<(), String> {
+fn told_something(output: &Output, what: &str) -> Result<(), Fault> {
     if output.stderr.is_empty() {
-        return Err(format!("nothing on standard error, where {what} should be"));
+        let told = format!("nothing on standard error, where {what} should be");
+        return Err(Fault::new(Kind::Silence, told));
     }
     Ok(())
-}
-
-fn hex(bytes: &[u8]) -> String {
-    bytes.iter().map(|byte| format!("{byte:02x}")).collect()
 }

@@ -4,12 +4,14 @@ use std::fs;
 use std::io::{Read, Write};
 use std::path::{Path, PathBuf};
 use std::process::{Command, Stdio};
-use std::sync::mpsc;
+use std::sync::{mpsc, OnceLock};
 use std::time::Duration;
 
+use crate::shrink::{Fault, Kind};
 use crate::streams::Random;
 
-/// No program may take longer for one input; while a failure is made shorter, much less.
+/// Guards against a program that hangs, and no test of speed: a run takes milliseconds, so that a busy
+/// machine stays far below them. While a failure is made shorter many runs may hang, hence the shorter one.
 pub const PATIENCE: Duration = Duration::from_secs(60);
 pub const PATIENCE_SHORT: Duration = Duration::from_secs(6);
 
@@ -59,8 +61,9 @@ impl Programs {
         input: &[u8],
         pieces: Option<u64>,
         patience: Duration,
-    ) -> Result<Output, String> {
-        let words = self.command(name)?;
+    ) -> Result<Output, Fault> {
+        let not_run = |what: String| Fault::new(Kind::NotRun, what);
+        let words = self.command(name).map_err(not_run)?;
         let mut command = Command::new(&words[0]);
         command.args(&words[1..]).args(args);
         for (key, _) in std::env::vars_os() {
@@ -74,7 +77,7 @@ impl Programs {
             .stdout(Stdio::piped())
             .stderr(Stdio::piped())
             .spawn()
-            .map_err(|e| format!("{}: {e}", words.join(" ")))?;
+            .map_err(|e| not_run(format!("{}: {e}", words.join(" "))))?;
         let stdin = child.stdin.take().expect("piped");
         let mut stdout = child.stdout.take().expect("piped");
         let mut stderr = child.stderr.take().expect("piped");
@@ -102,9 +105,10 @@ impl Programs {
         });
         let (in_time, status, stdout, stderr) = ended;
         if !in_time {
-            return Err(format!("{name}: no end after {} s", patience.as_secs()));
+            let told = format!("{name} did not end in time ({} s)", patience.as_secs());
+            return Err(Fault::new(Kind::Late, told));
         }
-        let told = |e: std::io::Error| format!("{name}: {e}");
+        let told = |e: std::io::Error| not_run(format!("{name}: {e}"));
         Ok(Output {
             stdout: stdout.map_err(told)?,
             stderr: stderr.map_err(told)?,
@@ -170,13 +174,17 @@ fn is_x86_64(program: &Path) -> Result<bool, String> {
 }
 
 fn machine() -> String {
-    Command::new("uname")
-        .arg("-m")
-        .output()
-        .ok()
-        .and_then(|out| String::from_utf8(out.stdout).ok())
-        .map(|name| name.trim().to_string())
-        .unwrap_or_else(|| std::env::consts::ARCH.to_string())
+    static ASKED: OnceLock<String> = OnceLock::new();
+    let ask = || {
+        Command::new("uname")
+            .arg("-m")
+            .output()
+            .ok()
+            .and_then(|out| String::from_utf8(out.stdout).ok())
+            .map(|name| name.trim().to_string())
+            .unwrap_or_else(|| std::env::consts::ARCH.to_string())
+    };
+    ASKED.get_or_init(ask).clone()
 }
 
 /// RATTLE_HOME, or the kit that `rt` belongs to, or where it is usually put.

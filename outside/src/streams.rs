@@ -416,7 +416,7 @@ impl Sender<'_> {
                 bytes.resize(log::BLOCK + more, random.pick(&[0, 0xA5]));
             }
         }
-        // "strings of wrong length or wrong check": a chance hit on a right check is spoiled again.
+        // A chance hit on a right check would be no stray: it is spoiled once more.
         let ours = log::whole(&bytes) && log::u32_at(&bytes, 0) == self.number;
         if ours {
             bytes[20] ^= 1;
@@ -477,7 +477,7 @@ impl Sender<'_> {
     }
 }
 
-/// How many blocks have come in number order, whatever came between.
+/// The block that is next to come, counted from block 0 upward with anything in between.
 fn first_missing(delivery: &[Delivered]) -> usize {
     let mut missing = 0;
     for d in delivery {

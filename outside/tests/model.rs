@@ -56,6 +56,16 @@ fn published_check_vector() {
     assert_eq!(log::check(b""), 0xFFFF);
 }
 
+#[test]
+fn a_cut_last_string_has_no_check() {
+    let whole = b"\x00\x09123456789\x00\x00";
+    assert_eq!(expected::checks(whole), "29b1\nffff\n");
+    for cut in [&b"\x00\x0312"[..], b"\x00\x03", b"\x00"] {
+        let input = [whole, cut].concat();
+        assert_eq!(expected::checks(&input), "29b1\nffff\n");
+    }
+}
+
 // ---- One listing, whole ----
 
 #[test]
@@ -94,7 +104,7 @@ fn saaenter_leaves_physics_in_place() {
 }
 
 #[test]
-fn lpastart_in_physics_during_saa_is_badmode() {
+fn lpastart_in_physics_is_badmode_with_saa_too() {
     let mut m = quiescent();
     let answers = go(
         &mut m,
@@ -108,7 +118,7 @@ fn lpastart_in_physics_during_saa_is_badmode() {
 }
 
 #[test]
-fn an_expiry_naming_the_first_start_is_stale() {
+fn the_first_timer_expires_in_vain_after_a_second_start() {
     let mut m = quiescent();
     let answers = go(
         &mut m,
