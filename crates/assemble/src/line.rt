@@ -2,9 +2,9 @@
 ghost use Prim.Native.Nat.{_≤_};
 ghost use lib.ListN.{length};
 use crate::names;
-use kinds::Event;
-use kinds::EventParts;
-use kinds::FoundEvent;
+use events::Event;
+use events::EventParts;
+use events::FoundEvent;
 use words::Parsed;
 
 pub(crate) enum Expected {

@@ -1,5 +1,5 @@
 // The names of the events and how many numbers go with each (Events).
-use kinds::Event;
+use events::Event;
 
 // No name.
 pub(crate) const UNKNOWN: u16 = 0;

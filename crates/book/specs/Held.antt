@@ -4,8 +4,8 @@
 use Prim.Native.Nat.{ℕ, _*_, _-_}
 use mathlib.Core.List.{List, [], _∷_, _++_}
 use lib.ListN.{length, replicate}
-use Rattle.kinds.specs.declared.state.State.{State}
-use Rattle.kinds.specs.declared.record.Record.{Record}
+use Rattle.state.specs.declared.State.{State}
+use Rattle.records.specs.declared.Record.{Record}
 use Rattle.layout.specs.Record.{recordBytes}
 use Rattle.draft.specs.declared.Draft.{Draft}
 use Rattle.rules.specs.Script.{effects}

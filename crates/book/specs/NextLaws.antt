@@ -5,11 +5,11 @@ use mathlib.Core.Bool.{Bool, true}
 use mathlib.Core.List.{List}
 use mathlib.Core.Path.{_≡_, refl, sym, ap, _∙_}
 use native.Mathlib.Omega.{arith}
-use Rattle.kinds.specs.State.{calibrationSound, physicsSound, tooSound, bootSound, sound, zeroed, fresh, withCount}
-use Rattle.kinds.specs.Effect.{oneMore}
-use Rattle.kinds.specs.declared.state.State.{State}
-use Rattle.kinds.specs.declared.event.Event.{Event}
-use Rattle.kinds.specs.declared.record.Record.{Record}
+use Rattle.state.specs.State.{calibrationSound, physicsSound, tooSound, bootSound, sound, zeroed, fresh, withCount}
+use Rattle.state.specs.Effect.{oneMore}
+use Rattle.state.specs.declared.State.{State}
+use Rattle.events.specs.declared.Event.{Event}
+use Rattle.records.specs.declared.Record.{Record}
 use Rattle.rules.specs.Rules.{verdictOf}
 use Rattle.rules.specs.Script.{effects, next}
 use Rattle.book.specs.Shape.{timerOn, timerAfter}

@@ -9,13 +9,13 @@ use lib.Dec.{eqb, leb, ltb}
 use Rattle.kinds.specs.Choice.{_⇒_}
 use Rattle.kinds.specs.ChoiceLaws.{every}
 use Rattle.kinds.specs.Kinds.{statusNumber}
-use Rattle.kinds.specs.State.{calibrationSound, physicsSound, zeroed}
-use Rattle.kinds.specs.Record.{partsOfRecord, recordInRange}
-use Rattle.kinds.specs.Event.{POWERON, POWEROFF, LPASTART, TOOSTART, partsOfEvent}
-use Rattle.kinds.specs.Effect.{effect}
-use Rattle.kinds.specs.declared.state.State.{State}
-use Rattle.kinds.specs.declared.event.Event.{Event}
-use Rattle.kinds.specs.declared.record.Record.{Record}
+use Rattle.state.specs.State.{calibrationSound, physicsSound, zeroed}
+use Rattle.records.specs.Record.{partsOfRecord, recordInRange}
+use Rattle.events.specs.Event.{POWERON, POWEROFF, LPASTART, TOOSTART, partsOfEvent}
+use Rattle.state.specs.Effect.{effect}
+use Rattle.state.specs.declared.State.{State}
+use Rattle.events.specs.declared.Event.{Event}
+use Rattle.records.specs.declared.Record.{Record}
 use Rattle.rules.specs.Rule.{Verdict}
 use Rattle.rules.specs.Script.{effects}
 use Rattle.book.specs.Shape.{when, same, inToo, tooShape, bootShape, shapeSound, timerAfter, notStatus}

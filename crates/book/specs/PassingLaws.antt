@@ -8,10 +8,10 @@ use lib.Dec.{eqb}
 use Rattle.kinds.specs.ChoiceLaws.{every}
 use Rattle.kinds.specs.Kinds.{flags}
 use Rattle.kinds.specs.KindsLaws.{flag-every}
-use Rattle.kinds.specs.Record.{dwellInRange, maskInRange}
+use Rattle.records.specs.Record.{dwellInRange, maskInRange}
 use Rattle.kinds.specs.declared.status.Status.{Status}
-use Rattle.kinds.specs.declared.state.State.{State}
-use Rattle.kinds.specs.declared.event.Event.{Event}
+use Rattle.state.specs.declared.State.{State}
+use Rattle.events.specs.declared.Event.{Event}
 use Rattle.rules.specs.Rule.{Rule, Verdict, unless, decide}
 use Rattle.rules.specs.Rules.{powerOn, powerOff, tooStart, tooExpired, ruleOf, unheard, verdictOf}
 use Rattle.book.specs.Shape.{everyState}

@@ -12,12 +12,12 @@ use lib.ListN.{length}
 use Rattle.kinds.specs.Choice.{if_then_else_, _⇒_}
 use Rattle.kinds.specs.ChoiceLaws.{every, and-left, and-right, chosen}
 use Rattle.kinds.specs.Kinds.{statusNumber}
-use Rattle.kinds.specs.State.{withCount}
-use Rattle.kinds.specs.Effect.{oneMore}
+use Rattle.state.specs.State.{withCount}
+use Rattle.state.specs.Effect.{oneMore}
 use Rattle.kinds.specs.declared.status.Status.{Status}
-use Rattle.kinds.specs.declared.state.State.{State}
-use Rattle.kinds.specs.declared.event.Event.{Event}
-use Rattle.kinds.specs.declared.record.Record.{Record}
+use Rattle.state.specs.declared.State.{State}
+use Rattle.events.specs.declared.Event.{Event}
+use Rattle.records.specs.declared.Record.{Record}
 use Rattle.rules.specs.Rule.{Verdict, verdict, unless}
 use Rattle.rules.specs.Rules.{ruleOf, verdictOf, startsPhysics}
 use Rattle.rules.specs.Script.{effects, closing, script, next}

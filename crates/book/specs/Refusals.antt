@@ -8,8 +8,8 @@ use lib.Dec.{eqb, leb}
 use Rattle.kinds.specs.Choice.{_⇒_}
 use Rattle.kinds.specs.Kinds.{statusNumber}
 use Rattle.kinds.specs.declared.status.Status.{Status}
-use Rattle.kinds.specs.declared.state.State.{State}
-use Rattle.kinds.specs.declared.event.Event.{Event}
+use Rattle.state.specs.declared.State.{State}
+use Rattle.events.specs.declared.Event.{Event}
 use Rattle.rules.specs.Rules.{ruleOf, unheard}
 
 abbrev pub refusalsOf : State → Event → List (Status × Bool)

@@ -9,14 +9,14 @@ use lib.Dec.{eqb}
 use Rattle.kinds.specs.Choice.{if_then_else_, _⇒_}
 use Rattle.kinds.specs.ChoiceLaws.{every}
 use Rattle.kinds.specs.Kinds.{modes, tasks, lpaModes, tooStates, flags, modeIs, taskIs, lpaModeIs, tooStateIs, flagNumber}
-use Rattle.kinds.specs.State.{calibrationSound, physicsSound}
-use Rattle.kinds.specs.Record.{TOOTIMER, SIUREBOOT, STATUS, partsOfRecord}
+use Rattle.state.specs.State.{calibrationSound, physicsSound}
+use Rattle.records.specs.Record.{TOOTIMER, SIUREBOOT, STATUS, partsOfRecord}
 use Rattle.kinds.specs.declared.mode.Mode.{Mode}
 use Rattle.kinds.specs.declared.task.Task.{Task}
 use Rattle.kinds.specs.declared.lpa_mode.LpaMode.{LpaMode}
 use Rattle.kinds.specs.declared.too_state.TooState.{TooState}
-use Rattle.kinds.specs.declared.state.State.{State}
-use Rattle.kinds.specs.declared.record.Record.{Record}
+use Rattle.state.specs.declared.State.{State}
+use Rattle.records.specs.declared.Record.{Record}
 
 -- a test that is made only where another passes
 abbrev pub when : Bool → (Unit {0} → Bool) → Bool

@@ -9,8 +9,8 @@ use lib.Dec.{eqb, leb}
 use Rattle.kinds.specs.ChoiceLaws.{every, and-left, and-right}
 use Rattle.kinds.specs.Kinds.{flags}
 use Rattle.kinds.specs.KindsLaws.{mode-every, task-every, lpa-mode-every, too-state-every, flag-every}
-use Rattle.kinds.specs.State.{calibrationSound, physicsSound, tooSound, bootSound, sound, withCount}
-use Rattle.kinds.specs.declared.state.State.{State}
+use Rattle.state.specs.State.{calibrationSound, physicsSound, tooSound, bootSound, sound, withCount}
+use Rattle.state.specs.declared.State.{State}
 use Rattle.book.specs.Shape.{when, same, inToo, tooShape, bootShape, shapeSound, soundGiven, soundParts, timerOn}
 use Rattle.book.specs.Shape.{inState, forLpaAwaited, forLciAwaited, forSaa, forLpaMode, forLpa, forLci, forMode, everyState}
 

@@ -8,12 +8,12 @@ use native.Mathlib.Omega.{arith}
 use borrow.Author.Tests.{ne-eqb, not-true}
 use Rattle.kinds.specs.Choice.{if_then_else_}
 use Rattle.kinds.specs.ChoiceLaws.{every, and-left, and-right}
-use Rattle.kinds.specs.State.{zeroed}
-use Rattle.kinds.specs.Record.{partsOfRecord}
-use Rattle.kinds.specs.Effect.{effect, oneMore}
-use Rattle.kinds.specs.EffectLaws.{effect-count}
-use Rattle.kinds.specs.declared.state.State.{State}
-use Rattle.kinds.specs.declared.record.Record.{Record}
+use Rattle.state.specs.State.{zeroed}
+use Rattle.records.specs.Record.{partsOfRecord}
+use Rattle.state.specs.Effect.{effect, oneMore}
+use Rattle.state.specs.EffectLaws.{effect-count}
+use Rattle.state.specs.declared.State.{State}
+use Rattle.records.specs.declared.Record.{Record}
 use Rattle.rules.specs.Script.{effects}
 use Rattle.book.specs.Shape.{timerOn, startsTimer, stopsTimer, timerAfter, notStatus}
 

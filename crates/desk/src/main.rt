@@ -1,10 +1,10 @@
 // Strings of 512 bytes to a fresh ground reader: a line a string with what it answers and holds (The ground reader).
 use kinds::Mode;
-use kinds::State;
 use layout::BLOCK;
 use libc::STDERR_FILENO;
 use libc::STDOUT_FILENO;
 use reader::Reader;
+use state::State;
 use words::BROKEN;
 use words::Parsed;
 use words::ROOM;

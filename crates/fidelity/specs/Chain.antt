@@ -5,7 +5,7 @@ use Prim.Native.Nat.{ℕ, _+_}
 use mathlib.Core.Bool.{true}
 use mathlib.Core.List.{List, [], _∷_}
 use mathlib.Core.Path.{_≡_}
-use Rattle.kinds.specs.declared.state.State.{State}
+use Rattle.state.specs.declared.State.{State}
 use Rattle.layout.specs.Block.{intact, headOf}
 use Rattle.reader.specs.Content.{LAST, contentOf}
 use Rattle.reader.specs.declared.content.Content.{Content}

@@ -9,7 +9,7 @@ use mathlib.Core.Path.{_≡_, refl, ap, _∙_}
 use native.Mathlib.Nat.{add-zero}
 use native.Mathlib.Omega.{arith}
 use lib.ListN.{length}
-use Rattle.kinds.specs.declared.state.State.{State}
+use Rattle.state.specs.declared.State.{State}
 use Rattle.layout.specs.Block.{intact, headOf}
 use Rattle.reader.specs.Content.{LAST}
 use Rattle.fidelity.specs.Pass.{At, lastAfter}

@@ -15,8 +15,8 @@ use borrow.Author.Tests.{leb-true, leb-false}
 use lib.ListN.{length, length-append}
 use lib.Seq.{append-snoc}
 use lib.Dec.{leb}
-use Rattle.kinds.specs.State.{fresh}
-use Rattle.kinds.specs.declared.state.State.{State}
+use Rattle.state.specs.State.{fresh}
+use Rattle.state.specs.declared.State.{State}
 use Rattle.layout.specs.Block.{intact, headOf}
 use Rattle.layout.specs.BlockLaws.{intact-length, intact-check, intact-other-length, intact-wrong-check}
 use Rattle.reader.specs.ContentLaws.{picked}

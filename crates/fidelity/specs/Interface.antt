@@ -19,13 +19,13 @@ use mathlib.Core.List.{List, [], _∷_, _++_}
 use mathlib.Core.Path.{_≡_, ap, sym, _∙_}
 use lib.ListN.{length, take}
 use Rattle.kinds.specs.ChoiceLaws.{every}
-use Rattle.kinds.specs.State.{sound}
-use Rattle.kinds.specs.Event.{partsOfEvent}
-use Rattle.kinds.specs.Record.{recordInRange}
-use Rattle.kinds.specs.declared.state.State.{State}
+use Rattle.state.specs.State.{sound}
+use Rattle.events.specs.Event.{partsOfEvent}
+use Rattle.records.specs.Record.{recordInRange}
+use Rattle.state.specs.declared.State.{State}
 use Rattle.kinds.specs.declared.status.Status.{Status}
-use Rattle.kinds.specs.declared.event.Event.{Event}
-use Rattle.kinds.specs.declared.record.Record.{Record}
+use Rattle.events.specs.declared.Event.{Event}
+use Rattle.records.specs.declared.Record.{Record}
 use Rattle.draft.specs.declared.Draft.{Draft}
 use Rattle.rules.specs.Rules.{verdictOf}
 use Rattle.rules.specs.Script.{effects, script, next}

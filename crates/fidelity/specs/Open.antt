@@ -8,10 +8,10 @@ use mathlib.Core.Logic.{_⊎_}
 use mathlib.Core.Path.{_≡_}
 use lib.ListN.{length, take}
 use Rattle.kinds.specs.ChoiceLaws.{every}
-use Rattle.kinds.specs.Record.{recordInRange}
-use Rattle.kinds.specs.declared.state.State.{State}
+use Rattle.records.specs.Record.{recordInRange}
+use Rattle.state.specs.declared.State.{State}
 use Rattle.kinds.specs.declared.status.Status.{Status}
-use Rattle.kinds.specs.declared.record.Record.{Record}
+use Rattle.records.specs.declared.Record.{Record}
 use Rattle.layout.specs.declared.block.Head.{Head}
 use Rattle.book.specs.Passing.{vFits}
 use Rattle.book.specs.Held.{recordsBytes}

@@ -12,11 +12,11 @@ use lib.ListN.{length, take, drop, length-append, length-replicate, take-append-
 use lib.Seq.{take-at, take-all, drop-append-add, length-paste, take-paste, paste}
 use Rattle.frame_check.specs.Check.{checkOf}
 use Rattle.kinds.specs.ChoiceLaws.{every, and-left, and-right}
-use Rattle.kinds.specs.Record.{recordInRange, partsOfRecord}
-use Rattle.kinds.specs.declared.state.State.{State}
+use Rattle.records.specs.Record.{recordInRange, partsOfRecord}
+use Rattle.state.specs.declared.State.{State}
 use Rattle.kinds.specs.declared.status.Status.{Status}
-use Rattle.kinds.specs.declared.record.Record.{Record}
-use Rattle.kinds.specs.declared.record.Reading.{Reading}
+use Rattle.records.specs.declared.Record.{Record}
+use Rattle.records.specs.declared.Reading.{Reading}
 use Rattle.layout.specs.Bytes.{two}
 use Rattle.layout.specs.Block.{headOf, usedInRange, headBytes, checkedBytes, blockBytes}
 use Rattle.layout.specs.BlockLaws.{head-length, checked-length, block-intact, block-head}

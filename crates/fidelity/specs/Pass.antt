@@ -11,11 +11,11 @@ use lib.ListN.{length, take}
 use lib.Dec.{eqb}
 use Rattle.frame_check.specs.Check.{checkOf}
 use Rattle.kinds.specs.Choice.{if_then_else_}
-use Rattle.kinds.specs.State.{fresh}
-use Rattle.kinds.specs.Record.{partsOfRecord}
-use Rattle.kinds.specs.declared.state.State.{State}
+use Rattle.state.specs.State.{fresh}
+use Rattle.records.specs.Record.{partsOfRecord}
+use Rattle.state.specs.declared.State.{State}
 use Rattle.kinds.specs.declared.answer.Answer.{Answer}
-use Rattle.kinds.specs.declared.record.Reading.{Reading}
+use Rattle.records.specs.declared.Reading.{Reading}
 use Rattle.layout.specs.Bytes.{AreBytes, u16At}
 use Rattle.layout.specs.Block.{headOf, RECORDS-AT}
 use Rattle.layout.specs.Record.{readRecord}

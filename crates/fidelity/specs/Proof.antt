@@ -7,8 +7,8 @@ use mathlib.Core.Logic.{_⊎_, inl, inr}
 use mathlib.Core.Path.{_≡_, refl, ap, sym, _∙_, subst}
 use native.Mathlib.Omega.{arith}
 use borrow.Author.Tests.{ltb-true, lt-ltb}
-use Rattle.kinds.specs.State.{fresh, zeroed}
-use Rattle.kinds.specs.declared.state.State.{State}
+use Rattle.state.specs.State.{fresh, zeroed}
+use Rattle.state.specs.declared.State.{State}
 use Rattle.reader.specs.Reader.{isBehind}
 use Rattle.reader.specs.ReaderLaws.{fresh-sound}
 use Rattle.fidelity.specs.Pass.{Run, runOf, At, lastAfter, lastEvent, Ground, freshGround, groundOf, Missed}

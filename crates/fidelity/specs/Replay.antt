@@ -6,9 +6,9 @@ use mathlib.Core.List.{List, [], _∷_}
 use mathlib.Core.Path.{_≡_}
 use lib.Dec.{eqb}
 use Rattle.kinds.specs.Choice.{if_then_else_}
-use Rattle.kinds.specs.declared.state.State.{State}
-use Rattle.kinds.specs.declared.record.Record.{Record}
-use Rattle.kinds.specs.declared.record.Reading.{Reading}
+use Rattle.state.specs.declared.State.{State}
+use Rattle.records.specs.declared.Record.{Record}
+use Rattle.records.specs.declared.Reading.{Reading}
 use Rattle.layout.specs.Record.{readRecord}
 use Rattle.reader.specs.Content.{taken, followed, place}
 use Rattle.reader.specs.declared.content.Content.{Content}

@@ -10,14 +10,14 @@ use borrow.Author.Tests.{eqb-true, eq-eqb, lt-leb, not-true, ltb-true}
 use lib.ListN.{length, length-append}
 use lib.Dec.{eqb}
 use Rattle.kinds.specs.ChoiceLaws.{every, and-left, and-right}
-use Rattle.kinds.specs.State.{sound}
-use Rattle.kinds.specs.Effect.{effect}
-use Rattle.kinds.specs.EffectLaws.{effect-count}
-use Rattle.kinds.specs.Record.{partsOfRecord, recordInRange, STATUS}
-use Rattle.kinds.specs.declared.state.State.{State}
+use Rattle.state.specs.State.{sound}
+use Rattle.state.specs.Effect.{effect}
+use Rattle.state.specs.EffectLaws.{effect-count}
+use Rattle.records.specs.Record.{partsOfRecord, recordInRange, STATUS}
+use Rattle.state.specs.declared.State.{State}
 use Rattle.kinds.specs.declared.status.Status.{Status}
-use Rattle.kinds.specs.declared.record.Record.{Record}
-use Rattle.kinds.specs.declared.record.Reading.{Reading}
+use Rattle.records.specs.declared.Record.{Record}
+use Rattle.records.specs.declared.Reading.{Reading}
 use Rattle.layout.specs.Record.{recordBytes}
 use Rattle.layout.specs.RecordLaws.{record-read, record-bytes-length}
 use Rattle.rules.specs.Script.{effects}

@@ -13,12 +13,12 @@ use lib.ListN.{length, length-append}
 use lib.Dec.{eqb, leb}
 use Rattle.kinds.specs.Choice.{if_then_else_}
 use Rattle.kinds.specs.ChoiceLaws.{and-left, and-right}
-use Rattle.kinds.specs.State.{sound, fresh, zeroed}
-use Rattle.kinds.specs.Event.{partsOfEvent}
-use Rattle.kinds.specs.declared.state.State.{State}
+use Rattle.state.specs.State.{sound, fresh, zeroed}
+use Rattle.events.specs.Event.{partsOfEvent}
+use Rattle.state.specs.declared.State.{State}
 use Rattle.kinds.specs.declared.answer.Answer.{Answer}
-use Rattle.kinds.specs.declared.event.Event.{Event}
-use Rattle.kinds.specs.declared.event.FoundEvent.{FoundEvent}
+use Rattle.events.specs.declared.Event.{Event}
+use Rattle.events.specs.declared.FoundEvent.{FoundEvent}
 use Rattle.layout.specs.Bytes.{AreBytes}
 use Rattle.layout.specs.Block.{blockBytes, lentWhole}
 use Rattle.layout.specs.Event.{readEvent}

@@ -8,10 +8,10 @@ use mathlib.Core.List.{List, [], _∷_}
 use mathlib.Core.Path.{_≡_, refl}
 use lib.ListN.{replicate, getD, set, take}
 use Rattle.frame_check.specs.Check.{checkOf, taps, feedBit, feedBits, feed}
-use Rattle.kinds.specs.Effect.{effect}
-use Rattle.kinds.specs.Event.{eventOf, partsOfEvent}
-use Rattle.kinds.specs.Record.{partsOfRecord, recordOf}
-use Rattle.kinds.specs.State.{zeroed, sound, calibrationSound, physicsSound, tooSound, bootSound}
+use Rattle.state.specs.Effect.{effect}
+use Rattle.events.specs.Event.{eventOf, partsOfEvent}
+use Rattle.records.specs.Record.{partsOfRecord, recordOf}
+use Rattle.state.specs.State.{zeroed, sound, calibrationSound, physicsSound, tooSound, bootSound}
 use Rattle.kinds.specs.Kinds.{modeNumber}
 use Rattle.layout.specs.Bytes.{u16At, u32At, two, four}
 use Rattle.layout.specs.Block.{headOf, intact, headBytes, checkedBytes, blockBytes}

@@ -1,11 +1,5 @@
 pub mod Choice
 pub mod Kinds
-pub mod State
-pub mod Event
-pub mod Record
-pub mod Effect
 pub mod ChoiceLaws
 pub mod KindsLaws
-pub mod EventLaws
-pub mod RecordLaws
-pub mod EffectLaws
+pub mod ArmLaws

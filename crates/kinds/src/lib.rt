@@ -1,30 +1,17 @@
-// The kinds that the book speaks of: modes, task states, statuses and answers with their numbers; the state; events; records.
+// The kinds that the book speaks of, with their numbers: modes, task states, LPA modes, TOO states, flags, statuses, answers.
 mod answer;
-mod effect;
-mod event;
 pub mod flag;
 mod lpa_mode;
 mod mode;
-mod record;
-mod state;
 mod status;
 mod task;
 mod too_state;
 
 pub use answer::Answer;
-pub use effect::one_more;
-pub use event::Event;
-pub use event::EventParts;
-pub use event::FoundEvent;
 pub use lpa_mode::FoundLpaMode;
 pub use lpa_mode::LpaMode;
 pub use mode::FoundMode;
 pub use mode::Mode;
-pub use record::Reading;
-pub use record::Record;
-pub use record::RecordParts;
-pub use record::dwell_in_range;
-pub use state::State;
 pub use status::FoundStatus;
 pub use status::Status;
 pub use task::FoundTask;

@@ -5,10 +5,10 @@ use mathlib.Core.List.{List, _++_}
 use lib.ListN.{length}
 use lib.Dec.{eqb}
 use Rattle.kinds.specs.Choice.{if_then_else_}
-use Rattle.kinds.specs.Event.{eventOf, partsOfEvent}
-use Rattle.kinds.specs.declared.event.Event.{Event}
-use Rattle.kinds.specs.declared.event.EventParts.{EventParts}
-use Rattle.kinds.specs.declared.event.FoundEvent.{FoundEvent}
+use Rattle.events.specs.Event.{eventOf, partsOfEvent}
+use Rattle.events.specs.declared.Event.{Event}
+use Rattle.events.specs.declared.EventParts.{EventParts}
+use Rattle.events.specs.declared.FoundEvent.{FoundEvent}
 use Rattle.layout.specs.Bytes.{u16At, u32At, two, four}
 
 unfoldable pub eventPartsAt : List ℕ → EventParts

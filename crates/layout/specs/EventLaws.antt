@@ -7,11 +7,11 @@ use native.Mathlib.Omega.{arith}
 use lib.ListN.{length, length-append}
 use lib.Dec.{eqb, lit<}
 use Rattle.kinds.specs.ChoiceLaws.{chosen}
-use Rattle.kinds.specs.Event.{eventOf, partsOfEvent}
-use Rattle.kinds.specs.EventLaws.{event-back, event-parts, event-code-fits, event-zero}
-use Rattle.kinds.specs.declared.event.Event.{Event}
-use Rattle.kinds.specs.declared.event.EventParts.{EventParts}
-use Rattle.kinds.specs.declared.event.FoundEvent.{FoundEvent}
+use Rattle.events.specs.Event.{eventOf, partsOfEvent}
+use Rattle.events.specs.EventLaws.{event-back, event-parts, event-code-fits, event-zero}
+use Rattle.events.specs.declared.Event.{Event}
+use Rattle.events.specs.declared.EventParts.{EventParts}
+use Rattle.events.specs.declared.FoundEvent.{FoundEvent}
 use Rattle.layout.specs.Bytes.{AreBytes, u16At, u32At, two, four}
 use Rattle.layout.specs.BytesLaws.{two-length, four-length, two-joined, four-joined, u32-fits}
 use Rattle.layout.specs.Event.{eventPartsAt, readEvent, eventPartsBytes, eventBytes}

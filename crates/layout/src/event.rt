@@ -5,9 +5,9 @@ use crate::bytes::four;
 use crate::bytes::two;
 use crate::bytes::u16_at;
 use crate::bytes::u32_at;
-use kinds::Event;
-use kinds::EventParts;
-use kinds::FoundEvent;
+use events::Event;
+use events::EventParts;
+use events::FoundEvent;
 
 // The bytes of an event.
 pub const EVENT: usize = 12;

@@ -2,13 +2,13 @@
 // found, and `same` or DIFFERENT with what was expected.
 ghost use Prim.Native.Nat.{_≤_};
 ghost use lib.ListN.{length};
-use kinds::Event;
-use kinds::FoundEvent;
-use kinds::Reading;
-use kinds::Record;
+use events::Event;
+use events::FoundEvent;
 use kinds::Status;
 use layout::Head;
 use libc::STDOUT_FILENO;
+use records::Reading;
+use records::Record;
 
 fn main() {
     writing();

@@ -1,10 +1,10 @@
 // Events of 12 bytes through a fresh manager: a line an event (One listing, whole).
 use kinds::Answer;
-use kinds::State;
 use layout::EVENT;
 use layout::Head;
 use libc::STDOUT_FILENO;
 use manager::Manager;
+use state::State;
 use words::ROOM;
 
 // Many events at a time.

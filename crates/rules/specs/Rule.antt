@@ -9,8 +9,8 @@ use Rattle.kinds.specs.declared.mode.Mode.{Mode}
 use Rattle.kinds.specs.declared.task.Task.{Task}
 use Rattle.kinds.specs.declared.too_state.TooState.{TooState}
 use Rattle.kinds.specs.declared.status.Status.{Status}
-use Rattle.kinds.specs.declared.state.State.{State}
-use Rattle.kinds.specs.declared.record.Record.{Record}
+use Rattle.state.specs.declared.State.{State}
+use Rattle.records.specs.declared.Record.{Record}
 
 -- the refusals with their conditions, in the order of their numbers; else the status and the records, but for the closing STATUS
 pub record Rule : Type 0 where

@@ -6,16 +6,16 @@ use mathlib.Core.Bool.{Bool, true, false, not, _&&_, _||_}
 use mathlib.Core.List.{List, [], _∷_, _++_}
 use lib.Dec.{eqb}
 use Rattle.kinds.specs.Choice.{if_then_else_}
-use Rattle.kinds.specs.Event.{partsOfEvent, STARTED}
-use Rattle.kinds.specs.Record.{dwellInRange, maskInRange}
+use Rattle.events.specs.Event.{partsOfEvent, STARTED}
+use Rattle.records.specs.Record.{dwellInRange, maskInRange}
 use Rattle.kinds.specs.declared.mode.Mode.{Mode}
 use Rattle.kinds.specs.declared.task.Task.{Task}
 use Rattle.kinds.specs.declared.lpa_mode.LpaMode.{LpaMode}
 use Rattle.kinds.specs.declared.too_state.TooState.{TooState}
 use Rattle.kinds.specs.declared.status.Status.{Status}
-use Rattle.kinds.specs.declared.state.State.{State}
-use Rattle.kinds.specs.declared.event.Event.{Event}
-use Rattle.kinds.specs.declared.record.Record.{Record}
+use Rattle.state.specs.declared.State.{State}
+use Rattle.events.specs.declared.Event.{Event}
+use Rattle.records.specs.declared.Record.{Record}
 use Rattle.rules.specs.Rule.{Rule, Verdict, unless, decide, inMode, lciIs, lpaIs, tooIs, stopCalibration, stopPhysics, endToo}
 
 abbrev pub rule : List (Status × Bool) → Status → List Record → Rule

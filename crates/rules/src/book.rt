@@ -30,10 +30,10 @@ use crate::too::too_start;
 use draft::Ruling;
 use draft::closed;
 use draft::records_0;
-use kinds::Event;
+use events::Event;
 use kinds::Mode;
-use kinds::State;
 use kinds::Status;
+use state::State;
 
 // What the book says of an event in a state: its status, the state after it, and its records, the closing STATUS last. In a sound
 // state whose count is below its end they all have room.
@@ -41,7 +41,7 @@ pub fn ruled(state: State, event: Event) -> Ruling
     ensures { λ r. ⌜ r ≡ rulingOf state event ⌝ }
 {
     let said = heard(state, event);
-    closed(said, kinds::one_more(state.count))
+    closed(said, state::one_more(state.count))
 }
 
 fn heard(s: State, event: Event) -> Ruling

@@ -12,10 +12,10 @@ use draft::records_1;
 use draft::records_2;
 use draft::records_3;
 use kinds::Mode;
-use kinds::Record;
-use kinds::State;
 use kinds::Status;
 use kinds::Task;
+use records::Record;
+use state::State;
 
 pub(crate) fn cal_start(s: State) -> Ruling
     ensures { λ r. ⌜ r ≡ ruledAs s (decide (calStart s)) ⌝ }

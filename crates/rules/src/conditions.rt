@@ -5,10 +5,10 @@ ghost use Rattle.draft.specs.Draft.{emits};
 use draft::Draft;
 use draft::emit;
 use kinds::Mode;
-use kinds::Record;
-use kinds::State;
 use kinds::Task;
 use kinds::TooState;
+use records::Record;
+use state::State;
 
 pub(crate) fn in_mode(s: State, other: Mode) -> bool
     ensures { λ r. ⌜ r ≡ inMode s other ⌝ }

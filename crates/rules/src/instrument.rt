@@ -1,6 +1,6 @@
 // The rules of the instrument as a whole: start, power, hold, SAA, load shed (Mode rules).
 ghost use mathlib.Core.Path.{_≡_};
-ghost use Rattle.kinds.specs.Record.{maskInRange};
+ghost use Rattle.records.specs.Record.{maskInRange};
 ghost use Rattle.rules.specs.Rule.{decide};
 ghost use Rattle.rules.specs.Rules.{
   started,
@@ -33,10 +33,10 @@ use draft::records_2;
 use draft::records_4;
 use draft::records_5;
 use kinds::Mode;
-use kinds::Record;
-use kinds::State;
 use kinds::Status;
 use kinds::Task;
+use records::Record;
+use state::State;
 
 pub(crate) fn started(s: State) -> Ruling
     ensures { λ r. ⌜ r ≡ ruledAs s (decide (started s)) ⌝ }

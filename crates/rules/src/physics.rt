@@ -14,11 +14,11 @@ use draft::records_2;
 use draft::records_3;
 use kinds::LpaMode;
 use kinds::Mode;
-use kinds::Record;
-use kinds::State;
 use kinds::Status;
 use kinds::Task;
 use kinds::TooState;
+use records::Record;
+use state::State;
 
 pub(crate) fn lpa_start(s: State, run: u32) -> Ruling
     ensures { λ r. ⌜ r ≡ ruledAs s (decide (lpaStart s run)) ⌝ }

@@ -2,7 +2,7 @@
 ghost use mathlib.Core.Path.{_≡_};
 ghost use lib.Dec.{eqb};
 ghost use Rattle.kinds.specs.Choice.{if_then_else_};
-ghost use Rattle.kinds.specs.Record.{dwellInRange};
+ghost use Rattle.records.specs.Record.{dwellInRange};
 ghost use Rattle.kinds.specs.declared.status.Status.{Status};
 ghost use Rattle.rules.specs.Rule.{decide, verdict};
 ghost use Rattle.rules.specs.Rules.{tooStarting, tooStart, startsPhysics, tooAbort, tooExpired, leaveToo};
@@ -16,11 +16,11 @@ use draft::records_4;
 use draft::records_5;
 use kinds::LpaMode;
 use kinds::Mode;
-use kinds::Record;
-use kinds::State;
 use kinds::Status;
 use kinds::Task;
 use kinds::TooState;
+use records::Record;
+use state::State;
 
 pub(crate) fn too_start(s: State, run: u32, dwell: u32) -> Ruling
     ensures { λ r. ⌜ r ≡ ruledAs s (decide (tooStart s run dwell (dwellInRange dwell))) ⌝ }
@@ -32,7 +32,7 @@ pub(crate) fn too_start(s: State, run: u32, dwell: u32) -> Ruling
     if too {
         return records_0(s, Status::TooAct);
     }
-    if !kinds::dwell_in_range(dwell) {
+    if !records::dwell_in_range(dwell) {
         return records_0(s, Status::BadParam);
     }
     begun(s, run, dwell)

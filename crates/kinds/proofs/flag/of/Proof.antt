@@ -1,6 +1,6 @@
 -- `flag::of`: each arm is the flag of its number, and a number that is neither is no flag.
 -- Assumes nothing.
-use Rattle.kinds.proofs.Arms.{numbered-past}
+use Rattle.kinds.specs.ArmLaws.{numbered-past}
 use Rattle.kinds.specs.Kinds.{flagNumber, flags}
 use Rattle.kinds.specs.declared.flag.FoundFlag.{FoundFlag}
 use Rattle.kinds.proofs.flag.of.Statement.{statement}

@@ -1,6 +1,6 @@
 -- `LpaMode::of`: each arm is the kind of its number, and a number that is none of them is no kind.
 -- Assumes nothing.
-use Rattle.kinds.proofs.Arms.{numbered-past}
+use Rattle.kinds.specs.ArmLaws.{numbered-past}
 use Rattle.kinds.specs.Kinds.{lpaModeNumber, lpaModes}
 use Rattle.kinds.specs.declared.lpa_mode.FoundLpaMode.{FoundLpaMode}
 use Rattle.kinds.proofs.lpa_mode.LpaMode.of.Statement.{statement}

@@ -1,6 +1,6 @@
 -- `Mode::of`: each arm is the kind of its number, and a number that is none of them is no kind.
 -- Assumes nothing.
-use Rattle.kinds.proofs.Arms.{numbered-past}
+use Rattle.kinds.specs.ArmLaws.{numbered-past}
 use Rattle.kinds.specs.Kinds.{modeNumber, modes}
 use Rattle.kinds.specs.declared.mode.FoundMode.{FoundMode}
 use Rattle.kinds.proofs.mode.Mode.of.Statement.{statement}

@@ -1,6 +1,6 @@
 -- `Task::of`: each arm is the kind of its number, and a number that is none of them is no kind.
 -- Assumes nothing.
-use Rattle.kinds.proofs.Arms.{numbered-past}
+use Rattle.kinds.specs.ArmLaws.{numbered-past}
 use Rattle.kinds.specs.Kinds.{taskNumber, tasks}
 use Rattle.kinds.specs.declared.task.FoundTask.{FoundTask}
 use Rattle.kinds.proofs.task.Task.of.Statement.{statement}

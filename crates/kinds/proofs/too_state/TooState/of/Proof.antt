@@ -1,6 +1,6 @@
 -- `TooState::of`: each arm is the kind of its number, and a number that is none of them is no kind.
 -- Assumes nothing.
-use Rattle.kinds.proofs.Arms.{numbered-past}
+use Rattle.kinds.specs.ArmLaws.{numbered-past}
 use Rattle.kinds.specs.Kinds.{tooStateNumber, tooStates}
 use Rattle.kinds.specs.declared.too_state.FoundTooState.{FoundTooState}
 use Rattle.kinds.proofs.too_state.TooState.of.Statement.{statement}

@@ -1,0 +1,14 @@
+-- `bare`: a is zero, and the rest is `single`, or it is not.
+-- Assumes nothing.
+use borrow.Author.Needs.{needs}
+use borrow.Author.Tests.{ne-eqb}
+use Rattle.events.proofs.bare.Statement.{statement}
+use Rattle.events.proofs.bare.Tie as tie
+
+pub bare-spec : {M : Type 1} → statement M
+bare-spec =
+    tie.close
+    (tie.spec
+    (λ c κs. search needs)
+    (λ c. simp (c .before .if1 .taken) (c .single .ensures))
+    (λ c. simp (ne-eqb _ _ (c .if1 .left))))

@@ -1,0 +1,10 @@
+-- Soundness is its four clauses.
+-- Assumes nothing.
+use borrow.Author.Needs.{needs}
+use Rattle.state.specs.State.{sound}
+use Rattle.state.proofs.State.sound.Statement.{statement}
+use Rattle.state.proofs.State.sound.Tie as tie
+
+pub sound-spec : {M : Type 1} → statement M
+unfolding sound
+sound-spec = tie.close (tie.spec (λ c κs. search needs) (λ c κs. search needs) (λ c κs. search needs) (λ c κs. search needs) (λ c. cc))

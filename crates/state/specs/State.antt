@@ -1,0 +1,223 @@
+-- State: its fields' values when fresh, when it is sound, and what it is with one field changed.
+-- That a field is in its range is the types' part: a mode that is no mode cannot be written down here. `armed` and `count` are
+-- 32-bit in the code; the definitions put no bound on them.
+-- Assumes nothing.
+use Prim.Native.Nat.{ℕ}
+use mathlib.Core.Bool.{Bool, true, false, not, _&&_, _||_}
+use lib.Dec.{eqb, leb}
+use Rattle.kinds.specs.Choice.{if_then_else_, _⇒_}
+use Rattle.kinds.specs.Kinds.{modeIs, taskIs, lpaModeIs, tooStateIs}
+use Rattle.kinds.specs.declared.mode.Mode.{Mode}
+use Rattle.kinds.specs.declared.task.Task.{Task}
+use Rattle.kinds.specs.declared.lpa_mode.LpaMode.{LpaMode}
+use Rattle.kinds.specs.declared.too_state.TooState.{TooState}
+use Rattle.state.specs.declared.State.{State}
+
+-- all zero, but for the count
+unfoldable pub zeroed : ℕ → State
+zeroed n =
+    record {
+      mode = Mode.Boot;
+      lci = Task.Idle;
+      lpa = Task.Idle;
+      «lpa_mode» = LpaMode.Normal;
+      saa = false;
+      «lci_awaited» = false;
+      «lpa_awaited» = false;
+      too = TooState.None;
+      armed = 0;
+      count = n;
+    }
+
+abbrev pub fresh : State
+fresh = zeroed 0
+
+-- (a) calibration runs only in CALIBRATION, which never has it idle
+unfoldable pub calibrationSound : State → Bool
+calibrationSound s =
+    (taskIs (s .lci) Task.Running ⇒ modeIs (s .mode) Mode.Calibration)
+    && (modeIs (s .mode) Mode.Calibration ⇒ not (taskIs (s .lci) Task.Idle))
+
+-- (b) physics runs only in PHYSICS or TOO, outside the SAA, and in the LPA mode of that mode; PHYSICS never has it idle
+unfoldable pub physicsSound : State → Bool
+physicsSound s =
+    (taskIs (s .lpa) Task.Running
+    ⇒ ((modeIs (s .mode) Mode.Physics && lpaModeIs (s .«lpa_mode») LpaMode.Normal)
+    || (modeIs (s .mode) Mode.Too && lpaModeIs (s .«lpa_mode») LpaMode.Too))
+    && not (s .saa))
+    && (modeIs (s .mode) Mode.Physics ⇒ not (taskIs (s .lpa) Task.Idle))
+
+-- (c) the target of opportunity and its timer are there in mode TOO and nowhere else; the timer names an event that was
+unfoldable pub tooSound : State → Bool
+tooSound s =
+    (if modeIs (s .mode) Mode.Too
+    then not (tooStateIs (s .too) TooState.None) && not (eqb (s .armed) 0)
+    else tooStateIs (s .too) TooState.None && eqb (s .armed) 0)
+    && leb (s .armed) (s .count)
+
+-- (d) in BOOT all but the count is zero
+unfoldable pub bootSound : State → Bool
+bootSound s =
+    modeIs (s .mode) Mode.Boot
+    ⇒ (taskIs (s .lci) Task.Idle
+    && taskIs (s .lpa) Task.Idle
+    && lpaModeIs (s .«lpa_mode») LpaMode.Normal
+    && not (s .saa)
+    && not (s .«lci_awaited»)
+    && not (s .«lpa_awaited»)
+    && tooStateIs (s .too) TooState.None
+    && eqb (s .armed) 0)
+
+unfoldable pub sound : State → Bool
+sound s = calibrationSound s && physicsSound s && tooSound s && bootSound s
+
+-- the state with one field changed, in the fields' order
+abbrev pub withMode : State → Mode → State
+withMode s x =
+    record {
+      mode = x;
+      lci = s .lci;
+      lpa = s .lpa;
+      «lpa_mode» = s .«lpa_mode»;
+      saa = s .saa;
+      «lci_awaited» = s .«lci_awaited»;
+      «lpa_awaited» = s .«lpa_awaited»;
+      too = s .too;
+      armed = s .armed;
+      count = s .count;
+    }
+
+abbrev pub withLci : State → Task → State
+withLci s x =
+    record {
+      mode = s .mode;
+      lci = x;
+      lpa = s .lpa;
+      «lpa_mode» = s .«lpa_mode»;
+      saa = s .saa;
+      «lci_awaited» = s .«lci_awaited»;
+      «lpa_awaited» = s .«lpa_awaited»;
+      too = s .too;
+      armed = s .armed;
+      count = s .count;
+    }
+
+abbrev pub withLpa : State → Task → State
+withLpa s x =
+    record {
+      mode = s .mode;
+      lci = s .lci;
+      lpa = x;
+      «lpa_mode» = s .«lpa_mode»;
+      saa = s .saa;
+      «lci_awaited» = s .«lci_awaited»;
+      «lpa_awaited» = s .«lpa_awaited»;
+      too = s .too;
+      armed = s .armed;
+      count = s .count;
+    }
+
+abbrev pub withLpaMode : State → LpaMode → State
+withLpaMode s x =
+    record {
+      mode = s .mode;
+      lci = s .lci;
+      lpa = s .lpa;
+      «lpa_mode» = x;
+      saa = s .saa;
+      «lci_awaited» = s .«lci_awaited»;
+      «lpa_awaited» = s .«lpa_awaited»;
+      too = s .too;
+      armed = s .armed;
+      count = s .count;
+    }
+
+abbrev pub withSaa : State → Bool → State
+withSaa s x =
+    record {
+      mode = s .mode;
+      lci = s .lci;
+      lpa = s .lpa;
+      «lpa_mode» = s .«lpa_mode»;
+      saa = x;
+      «lci_awaited» = s .«lci_awaited»;
+      «lpa_awaited» = s .«lpa_awaited»;
+      too = s .too;
+      armed = s .armed;
+      count = s .count;
+    }
+
+abbrev pub withLciAwaited : State → Bool → State
+withLciAwaited s x =
+    record {
+      mode = s .mode;
+      lci = s .lci;
+      lpa = s .lpa;
+      «lpa_mode» = s .«lpa_mode»;
+      saa = s .saa;
+      «lci_awaited» = x;
+      «lpa_awaited» = s .«lpa_awaited»;
+      too = s .too;
+      armed = s .armed;
+      count = s .count;
+    }
+
+abbrev pub withLpaAwaited : State → Bool → State
+withLpaAwaited s x =
+    record {
+      mode = s .mode;
+      lci = s .lci;
+      lpa = s .lpa;
+      «lpa_mode» = s .«lpa_mode»;
+      saa = s .saa;
+      «lci_awaited» = s .«lci_awaited»;
+      «lpa_awaited» = x;
+      too = s .too;
+      armed = s .armed;
+      count = s .count;
+    }
+
+abbrev pub withToo : State → TooState → State
+withToo s x =
+    record {
+      mode = s .mode;
+      lci = s .lci;
+      lpa = s .lpa;
+      «lpa_mode» = s .«lpa_mode»;
+      saa = s .saa;
+      «lci_awaited» = s .«lci_awaited»;
+      «lpa_awaited» = s .«lpa_awaited»;
+      too = x;
+      armed = s .armed;
+      count = s .count;
+    }
+
+abbrev pub withArmed : State → ℕ → State
+withArmed s x =
+    record {
+      mode = s .mode;
+      lci = s .lci;
+      lpa = s .lpa;
+      «lpa_mode» = s .«lpa_mode»;
+      saa = s .saa;
+      «lci_awaited» = s .«lci_awaited»;
+      «lpa_awaited» = s .«lpa_awaited»;
+      too = s .too;
+      armed = x;
+      count = s .count;
+    }
+
+abbrev pub withCount : State → ℕ → State
+withCount s x =
+    record {
+      mode = s .mode;
+      lci = s .lci;
+      lpa = s .lpa;
+      «lpa_mode» = s .«lpa_mode»;
+      saa = s .saa;
+      «lci_awaited» = s .«lci_awaited»;
+      «lpa_awaited» = s .«lpa_awaited»;
+      too = s .too;
+      armed = s .armed;
+      count = x;
+    }
