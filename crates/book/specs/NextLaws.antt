@@ -5,7 +5,7 @@ use mathlib.Core.Bool.{Bool, true}
 use mathlib.Core.List.{List}
 use mathlib.Core.Path.{_≡_, refl, sym, ap, _∙_}
 use native.Mathlib.Omega.{arith}
-use Rattle.state.specs.State.{calibrationSound, physicsSound, tooSound, bootSound, sound, zeroed, fresh, withCount}
+use Rattle.state.specs.State.{calibrationSound, physicsSound, tooSound, bootSound, sound, rebooted, fresh, withCount}
 use Rattle.state.specs.Effect.{oneMore}
 use Rattle.state.specs.declared.State.{State}
 use Rattle.events.specs.declared.Event.{Event}
@@ -38,9 +38,9 @@ next-sound s e ok below =
 
 -- the first state of all
 pub fresh-sound : sound fresh ≡ true
-unfolding sound calibrationSound physicsSound tooSound bootSound zeroed
+unfolding sound calibrationSound physicsSound tooSound bootSound rebooted
 fresh-sound = refl
 
 pub fresh-count : fresh .count ≡ 0
-unfolding zeroed
+unfolding rebooted
 fresh-count = refl

@@ -9,7 +9,7 @@ use lib.Dec.{eqb, leb, ltb}
 use Rattle.kinds.specs.Choice.{_⇒_}
 use Rattle.kinds.specs.ChoiceLaws.{every}
 use Rattle.kinds.specs.Kinds.{statusNumber}
-use Rattle.state.specs.State.{calibrationSound, physicsSound, zeroed}
+use Rattle.state.specs.State.{calibrationSound, physicsSound, rebooted}
 use Rattle.records.specs.Record.{partsOfRecord, recordInRange}
 use Rattle.events.specs.Event.{POWERON, POWEROFF, LPASTART, TOOSTART, partsOfEvent}
 use Rattle.state.specs.Effect.{effect}
@@ -47,5 +47,5 @@ keeps s v =
     && (shapeSound (effects s (v .records)) && same (inToo (effects s (v .records))) (timerAfter (inToo s) (v .records)))
 
 unfoldable pub passes : State → Event → Verdict → Bool
-unfolding shapeSound calibrationSound physicsSound tooShape bootShape effect zeroed partsOfRecord recordInRange partsOfEvent
+unfolding shapeSound calibrationSound physicsSound tooShape bootShape effect rebooted partsOfRecord recordInRange partsOfEvent
 passes s e v = every (numbersRight e) (v .records) && (tidy v && when (shapeSound s) (λ _. keeps s v))

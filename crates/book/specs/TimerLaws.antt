@@ -8,7 +8,7 @@ use native.Mathlib.Omega.{arith}
 use borrow.Author.Tests.{ne-eqb, not-true}
 use Rattle.kinds.specs.Choice.{if_then_else_}
 use Rattle.kinds.specs.ChoiceLaws.{every, and-left, and-right}
-use Rattle.state.specs.State.{zeroed}
+use Rattle.state.specs.State.{rebooted}
 use Rattle.records.specs.Record.{partsOfRecord}
 use Rattle.state.specs.Effect.{effect, oneMore}
 use Rattle.state.specs.EffectLaws.{effect-count}
@@ -24,7 +24,7 @@ one-more-below n below = omega arith
 -- armed after any record, told by the record's numbers
 armed-told : (s : State) (r : Record)
     → (effect s r) .armed ≡ (if startsTimer r then oneMore (s .count) else if stopsTimer r then 0 else s .armed)
-unfolding effect partsOfRecord zeroed
+unfolding effect partsOfRecord rebooted
 armed-told s (Record.OpMode m) = refl
 armed-told s (Record.LciState t) = refl
 armed-told s (Record.LpaState t) = refl

@@ -4,7 +4,7 @@
 --
 -- Of the book: script-form, records-no-status, records-length, script-range, script-fits, next-count, next-sound, one-more-below,
 -- ruling-held, ruling-state, ruling-count, ruling-bytes; and records-bytes-append.
--- Of the kinds: effect-count (no record but STATUS changes the count). Opened: `zeroed`, that fresh has count 0, and `partsOfRecord`
+-- Of the kinds: effect-count (no record but STATUS changes the count). Opened: `rebooted`, that fresh has count 0, and `partsOfRecord`
 -- at STATUS, that v is the event's number.
 -- Of the layouts: event-fits (an event that is read from bytes has 32-bit numbers); record-read, record-bytes-length; head-length,
 -- checked-length, block-intact, block-head; intact-length, intact-check, intact-other-length, intact-wrong-check. Opened: `blockBytes`,

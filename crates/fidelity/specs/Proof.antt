@@ -7,7 +7,7 @@ use mathlib.Core.Logic.{_⊎_, inl, inr}
 use mathlib.Core.Path.{_≡_, refl, ap, sym, _∙_, subst}
 use native.Mathlib.Omega.{arith}
 use borrow.Author.Tests.{ltb-true, lt-ltb}
-use Rattle.state.specs.State.{fresh, zeroed}
+use Rattle.state.specs.State.{fresh, rebooted}
 use Rattle.state.specs.declared.State.{State}
 use Rattle.reader.specs.Reader.{isBehind}
 use Rattle.reader.specs.ReaderLaws.{fresh-sound}
@@ -33,7 +33,7 @@ followed-fresh number r k =
     }
 
 fresh-last : (bs : List (List ℕ)) → lastEvent bs ≡ lastAfter (fresh .count) bs
-unfolding zeroed
+unfolding rebooted
 fresh-last bs = refl
 
 module _ (number : ℕ) (r : Run) (k : Kept number r) (delivered : List (List ℕ)) (w : Ground)

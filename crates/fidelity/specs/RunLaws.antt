@@ -13,7 +13,7 @@ use lib.ListN.{length, length-append}
 use lib.Dec.{eqb, leb}
 use Rattle.kinds.specs.Choice.{if_then_else_}
 use Rattle.kinds.specs.ChoiceLaws.{and-left, and-right}
-use Rattle.state.specs.State.{sound, fresh, zeroed}
+use Rattle.state.specs.State.{sound, fresh, rebooted}
 use Rattle.events.specs.Event.{partsOfEvent}
 use Rattle.state.specs.declared.State.{State}
 use Rattle.kinds.specs.declared.answer.Answer.{Answer}
@@ -94,12 +94,12 @@ pub record Kept (number : ℕ) (r : Run) : Type 0 where
   pub chain : Chain number (r .states) 0 fresh (r .blocks) base
 
 fresh-numbered : (n : ℕ) (s : State) → At (fresh ∷ []) n s → s .count ≡ n
-unfolding zeroed
+unfolding rebooted
 fresh-numbered zero s e = sym (ap (λ (t : State). t .count) e)
 fresh-numbered (suc n) s e = absurd e
 
 kept-fresh : (number : ℕ) → Kept number (freshRun number)
-unfolding zeroed
+unfolding rebooted
 kept-fresh number =
     record {
       base = fresh;

@@ -19,6 +19,10 @@ use Rattle.kinds.specs.declared.status.Status.{Status}
 use Rattle.kinds.specs.declared.status.FoundStatus.{FoundStatus}
 use Rattle.kinds.specs.declared.answer.Answer.{Answer}
 
+-- the last of the 32-bit numbers, where what is counted ends
+abbrev pub LAST-NUMBER : ℕ
+LAST-NUMBER = 4_294_967_295
+
 abbrev pub modeNumber : Mode → ℕ
 modeNumber Mode.Boot = 0
 modeNumber Mode.Terminal = 1

@@ -18,3 +18,6 @@ pub use task::FoundTask;
 pub use task::Task;
 pub use too_state::FoundTooState;
 pub use too_state::TooState;
+
+// The last of the 32-bit numbers, where what is counted ends.
+pub const LAST_NUMBER: u32 = 4_294_967_295;

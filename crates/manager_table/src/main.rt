@@ -131,7 +131,7 @@ fn flushing() {
 
 // The last event has the number 4294967295; it is refused by the rules (NOTRUN) and logged. Past it only a flush goes.
 fn the_end_of_the_count() {
-    let state = State::zeroed(4294967294);
+    let state = State::rebooted(4294967294);
     let m = made(state, 0, 0, 4294967294, [0; 496]);
     let mut b = head(0, 1, 0xFE);
     b[10] = 0xFF;
@@ -165,7 +165,7 @@ fn made(state: State, block: u32, used: u16, before: u32, records: [u8; 496]) ->
 fn orders() {
     let mut area = [0u8; 496];
     area[1] = 29;
-    let full = State::zeroed(4294967295);
+    let full = State::rebooted(4294967295);
     let unsound = full.with_mode(Mode::Physics);
     let wrong = made(unsound, 0, 1, 4294967294, area);
     let right = made(full, 0, 1, 4294967294, area);
@@ -215,7 +215,7 @@ fn log(name: &[u8], block: u32, used: u16, before: u32, area: [u8; 496]) {
     let noop = layout::event_bytes(Event::NoOp);
     step_whole(
         name,
-        made(State::zeroed(1), block, used, before, area),
+        made(State::rebooted(1), block, used, before, area),
         &noop,
     );
 }

@@ -183,7 +183,7 @@ fn readers_not_sound() {
         heard: 1,
     };
     read(b"a reader with next 1 at count 0", early, block_0());
-    let counted = State::zeroed(1);
+    let counted = State::rebooted(1);
     let deaf = Reader {
         number: 7,
         state: counted,
@@ -306,7 +306,7 @@ fn late(used: u8, low: u8) -> [u8; 512] {
 }
 
 fn late_reader(count: u32) -> Reader {
-    let state = State::zeroed(count);
+    let state = State::rebooted(count);
     Reader {
         number: 7,
         state,

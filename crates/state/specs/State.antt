@@ -13,24 +13,28 @@ use Rattle.kinds.specs.declared.lpa_mode.LpaMode.{LpaMode}
 use Rattle.kinds.specs.declared.too_state.TooState.{TooState}
 use Rattle.state.specs.declared.State.{State}
 
--- all zero, but for the count
-unfoldable pub zeroed : ℕ → State
-zeroed n =
+-- a state by its fields, in their order
+abbrev pub stateOf : Mode → Task → Task → LpaMode → Bool → Bool → Bool → TooState → ℕ → ℕ → State
+stateOf mode lci lpa lpaMode saa lciAwaited lpaAwaited too armed count =
     record {
-      mode = Mode.Boot;
-      lci = Task.Idle;
-      lpa = Task.Idle;
-      «lpa_mode» = LpaMode.Normal;
-      saa = false;
-      «lci_awaited» = false;
-      «lpa_awaited» = false;
-      too = TooState.None;
-      armed = 0;
-      count = n;
+      mode = mode;
+      lci = lci;
+      lpa = lpa;
+      «lpa_mode» = lpaMode;
+      saa = saa;
+      «lci_awaited» = lciAwaited;
+      «lpa_awaited» = lpaAwaited;
+      too = too;
+      armed = armed;
+      count = count;
     }
 
+-- what a reboot leaves, with the number of events closed
+unfoldable pub rebooted : ℕ → State
+rebooted n = stateOf Mode.Boot Task.Idle Task.Idle LpaMode.Normal false false false TooState.None 0 n
+
 abbrev pub fresh : State
-fresh = zeroed 0
+fresh = rebooted 0
 
 -- (a) calibration runs only in CALIBRATION, which never has it idle
 unfoldable pub calibrationSound : State → Bool
@@ -73,151 +77,31 @@ sound s = calibrationSound s && physicsSound s && tooSound s && bootSound s
 
 -- the state with one field changed, in the fields' order
 abbrev pub withMode : State → Mode → State
-withMode s x =
-    record {
-      mode = x;
-      lci = s .lci;
-      lpa = s .lpa;
-      «lpa_mode» = s .«lpa_mode»;
-      saa = s .saa;
-      «lci_awaited» = s .«lci_awaited»;
-      «lpa_awaited» = s .«lpa_awaited»;
-      too = s .too;
-      armed = s .armed;
-      count = s .count;
-    }
+withMode s x = stateOf x (s .lci) (s .lpa) (s .«lpa_mode») (s .saa) (s .«lci_awaited») (s .«lpa_awaited») (s .too) (s .armed) (s .count)
 
 abbrev pub withLci : State → Task → State
-withLci s x =
-    record {
-      mode = s .mode;
-      lci = x;
-      lpa = s .lpa;
-      «lpa_mode» = s .«lpa_mode»;
-      saa = s .saa;
-      «lci_awaited» = s .«lci_awaited»;
-      «lpa_awaited» = s .«lpa_awaited»;
-      too = s .too;
-      armed = s .armed;
-      count = s .count;
-    }
+withLci s x = stateOf (s .mode) x (s .lpa) (s .«lpa_mode») (s .saa) (s .«lci_awaited») (s .«lpa_awaited») (s .too) (s .armed) (s .count)
 
 abbrev pub withLpa : State → Task → State
-withLpa s x =
-    record {
-      mode = s .mode;
-      lci = s .lci;
-      lpa = x;
-      «lpa_mode» = s .«lpa_mode»;
-      saa = s .saa;
-      «lci_awaited» = s .«lci_awaited»;
-      «lpa_awaited» = s .«lpa_awaited»;
-      too = s .too;
-      armed = s .armed;
-      count = s .count;
-    }
+withLpa s x = stateOf (s .mode) (s .lci) x (s .«lpa_mode») (s .saa) (s .«lci_awaited») (s .«lpa_awaited») (s .too) (s .armed) (s .count)
 
 abbrev pub withLpaMode : State → LpaMode → State
-withLpaMode s x =
-    record {
-      mode = s .mode;
-      lci = s .lci;
-      lpa = s .lpa;
-      «lpa_mode» = x;
-      saa = s .saa;
-      «lci_awaited» = s .«lci_awaited»;
-      «lpa_awaited» = s .«lpa_awaited»;
-      too = s .too;
-      armed = s .armed;
-      count = s .count;
-    }
+withLpaMode s x = stateOf (s .mode) (s .lci) (s .lpa) x (s .saa) (s .«lci_awaited») (s .«lpa_awaited») (s .too) (s .armed) (s .count)
 
 abbrev pub withSaa : State → Bool → State
-withSaa s x =
-    record {
-      mode = s .mode;
-      lci = s .lci;
-      lpa = s .lpa;
-      «lpa_mode» = s .«lpa_mode»;
-      saa = x;
-      «lci_awaited» = s .«lci_awaited»;
-      «lpa_awaited» = s .«lpa_awaited»;
-      too = s .too;
-      armed = s .armed;
-      count = s .count;
-    }
+withSaa s x = stateOf (s .mode) (s .lci) (s .lpa) (s .«lpa_mode») x (s .«lci_awaited») (s .«lpa_awaited») (s .too) (s .armed) (s .count)
 
 abbrev pub withLciAwaited : State → Bool → State
-withLciAwaited s x =
-    record {
-      mode = s .mode;
-      lci = s .lci;
-      lpa = s .lpa;
-      «lpa_mode» = s .«lpa_mode»;
-      saa = s .saa;
-      «lci_awaited» = x;
-      «lpa_awaited» = s .«lpa_awaited»;
-      too = s .too;
-      armed = s .armed;
-      count = s .count;
-    }
+withLciAwaited s x = stateOf (s .mode) (s .lci) (s .lpa) (s .«lpa_mode») (s .saa) x (s .«lpa_awaited») (s .too) (s .armed) (s .count)
 
 abbrev pub withLpaAwaited : State → Bool → State
-withLpaAwaited s x =
-    record {
-      mode = s .mode;
-      lci = s .lci;
-      lpa = s .lpa;
-      «lpa_mode» = s .«lpa_mode»;
-      saa = s .saa;
-      «lci_awaited» = s .«lci_awaited»;
-      «lpa_awaited» = x;
-      too = s .too;
-      armed = s .armed;
-      count = s .count;
-    }
+withLpaAwaited s x = stateOf (s .mode) (s .lci) (s .lpa) (s .«lpa_mode») (s .saa) (s .«lci_awaited») x (s .too) (s .armed) (s .count)
 
 abbrev pub withToo : State → TooState → State
-withToo s x =
-    record {
-      mode = s .mode;
-      lci = s .lci;
-      lpa = s .lpa;
-      «lpa_mode» = s .«lpa_mode»;
-      saa = s .saa;
-      «lci_awaited» = s .«lci_awaited»;
-      «lpa_awaited» = s .«lpa_awaited»;
-      too = x;
-      armed = s .armed;
-      count = s .count;
-    }
+withToo s x = stateOf (s .mode) (s .lci) (s .lpa) (s .«lpa_mode») (s .saa) (s .«lci_awaited») (s .«lpa_awaited») x (s .armed) (s .count)
 
 abbrev pub withArmed : State → ℕ → State
-withArmed s x =
-    record {
-      mode = s .mode;
-      lci = s .lci;
-      lpa = s .lpa;
-      «lpa_mode» = s .«lpa_mode»;
-      saa = s .saa;
-      «lci_awaited» = s .«lci_awaited»;
-      «lpa_awaited» = s .«lpa_awaited»;
-      too = s .too;
-      armed = x;
-      count = s .count;
-    }
+withArmed s x = stateOf (s .mode) (s .lci) (s .lpa) (s .«lpa_mode») (s .saa) (s .«lci_awaited») (s .«lpa_awaited») (s .too) x (s .count)
 
 abbrev pub withCount : State → ℕ → State
-withCount s x =
-    record {
-      mode = s .mode;
-      lci = s .lci;
-      lpa = s .lpa;
-      «lpa_mode» = s .«lpa_mode»;
-      saa = s .saa;
-      «lci_awaited» = s .«lci_awaited»;
-      «lpa_awaited» = s .«lpa_awaited»;
-      too = s .too;
-      armed = s .armed;
-      count = x;
-    }
+withCount s x = stateOf (s .mode) (s .lci) (s .lpa) (s .«lpa_mode») (s .saa) (s .«lci_awaited») (s .«lpa_awaited») (s .too) (s .armed) x

@@ -5,7 +5,7 @@ mod sound;
 ghost use mathlib.Core.Path.{_≡_};
 ghost use Rattle.state.specs.State.{
   fresh,
-  zeroed,
+  rebooted,
   withMode,
   withLci,
   withLpa,
@@ -40,12 +40,12 @@ impl State {
     pub fn fresh() -> Self
         ensures { λ r. ⌜ r ≡ fresh ⌝ }
     {
-        State::zeroed(0)
+        State::rebooted(0)
     }
 
-    // What is left of a state when the instrument starts again: the number of events closed.
-    pub fn zeroed(count: u32) -> Self
-        ensures { λ r. ⌜ r ≡ zeroed count ⌝ }
+    // What a reboot leaves: the number of events closed.
+    pub fn rebooted(count: u32) -> Self
+        ensures { λ r. ⌜ r ≡ rebooted count ⌝ }
     {
         State {
             mode: Mode::Boot,
@@ -64,140 +64,66 @@ impl State {
     pub fn with_mode(self, mode: Mode) -> Self
         ensures { λ r. ⌜ r ≡ withMode self mode ⌝ }
     {
-        let lci = self.lci;
-        let lpa = self.lpa;
-        let lpa_mode = self.lpa_mode;
-        let too = self.too;
-        State {
-            mode,
-            lci,
-            lpa,
-            lpa_mode,
-            saa: self.saa,
-            lci_awaited: self.lci_awaited,
-            lpa_awaited: self.lpa_awaited,
-            too,
-            armed: self.armed,
-            count: self.count,
-        }
+        State { mode, ..self }
     }
 
     pub fn with_lci(self, lci: Task) -> Self
         ensures { λ r. ⌜ r ≡ withLci self lci ⌝ }
     {
-        let mode = self.mode;
-        let lpa = self.lpa;
-        let lpa_mode = self.lpa_mode;
-        let too = self.too;
-        State {
-            mode,
-            lci,
-            lpa,
-            lpa_mode,
-            saa: self.saa,
-            lci_awaited: self.lci_awaited,
-            lpa_awaited: self.lpa_awaited,
-            too,
-            armed: self.armed,
-            count: self.count,
-        }
+        State { lci, ..self }
     }
 
     pub fn with_lpa(self, lpa: Task) -> Self
         ensures { λ r. ⌜ r ≡ withLpa self lpa ⌝ }
     {
-        let mode = self.mode;
-        let lci = self.lci;
-        let lpa_mode = self.lpa_mode;
-        let too = self.too;
-        State {
-            mode,
-            lci,
-            lpa,
-            lpa_mode,
-            saa: self.saa,
-            lci_awaited: self.lci_awaited,
-            lpa_awaited: self.lpa_awaited,
-            too,
-            armed: self.armed,
-            count: self.count,
-        }
+        State { lpa, ..self }
     }
 
     pub fn with_lpa_mode(self, lpa_mode: LpaMode) -> Self
         ensures { λ r. ⌜ r ≡ withLpaMode self «lpa_mode» ⌝ }
     {
-        let mode = self.mode;
-        let lci = self.lci;
-        let lpa = self.lpa;
-        let too = self.too;
+        State { lpa_mode, ..self }
+    }
+
+    pub fn with_saa(self, saa: bool) -> Self
+        ensures { λ r. ⌜ r ≡ withSaa self saa ⌝ }
+    {
+        State { saa, ..self }
+    }
+
+    pub fn with_lci_awaited(self, lci_awaited: bool) -> Self
+        ensures { λ r. ⌜ r ≡ withLciAwaited self «lci_awaited» ⌝ }
+    {
         State {
-            mode,
-            lci,
-            lpa,
-            lpa_mode,
-            saa: self.saa,
-            lci_awaited: self.lci_awaited,
-            lpa_awaited: self.lpa_awaited,
-            too,
-            armed: self.armed,
-            count: self.count,
+            lci_awaited,
+            ..self
         }
     }
 
-    pub fn with_saa(mut self, saa: bool) -> Self
-        ensures { λ r. ⌜ r ≡ withSaa self saa ⌝ }
-    {
-        self.saa = saa;
-        self
-    }
-
-    pub fn with_lci_awaited(mut self, lci_awaited: bool) -> Self
-        ensures { λ r. ⌜ r ≡ withLciAwaited self «lci_awaited» ⌝ }
-    {
-        self.lci_awaited = lci_awaited;
-        self
-    }
-
-    pub fn with_lpa_awaited(mut self, lpa_awaited: bool) -> Self
+    pub fn with_lpa_awaited(self, lpa_awaited: bool) -> Self
         ensures { λ r. ⌜ r ≡ withLpaAwaited self «lpa_awaited» ⌝ }
     {
-        self.lpa_awaited = lpa_awaited;
-        self
+        State {
+            lpa_awaited,
+            ..self
+        }
     }
 
     pub fn with_too(self, too: TooState) -> Self
         ensures { λ r. ⌜ r ≡ withToo self too ⌝ }
     {
-        let mode = self.mode;
-        let lci = self.lci;
-        let lpa = self.lpa;
-        let lpa_mode = self.lpa_mode;
-        State {
-            mode,
-            lci,
-            lpa,
-            lpa_mode,
-            saa: self.saa,
-            lci_awaited: self.lci_awaited,
-            lpa_awaited: self.lpa_awaited,
-            too,
-            armed: self.armed,
-            count: self.count,
-        }
+        State { too, ..self }
     }
 
-    pub fn with_armed(mut self, armed: u32) -> Self
+    pub fn with_armed(self, armed: u32) -> Self
         ensures { λ r. ⌜ r ≡ withArmed self armed ⌝ }
     {
-        self.armed = armed;
-        self
+        State { armed, ..self }
     }
 
-    pub fn with_count(mut self, count: u32) -> Self
+    pub fn with_count(self, count: u32) -> Self
         ensures { λ r. ⌜ r ≡ withCount self count ⌝ }
     {
-        self.count = count;
-        self
+        State { count, ..self }
     }
 }
