@@ -7,7 +7,7 @@ use mathlib.Core.Bool.{Bool, _&&_, _||_}
 use lib.ListN.{length}
 use lib.Dec.{eqb, leb, ltb}
 use Rattle.kinds.specs.Choice.{_⇒_}
-use Rattle.kinds.specs.ChoiceLaws.{every}
+use Rattle.kinds.specs.Choice.{every}
 use Rattle.kinds.specs.Kinds.{statusNumber}
 use Rattle.state.specs.State.{calibrationSound, physicsSound, rebooted}
 use Rattle.records.specs.Record.{partsOfRecord, recordInRange}

@@ -5,7 +5,7 @@ use mathlib.Core.Bool.{true}
 use mathlib.Core.List.{[], _∷_}
 use mathlib.Core.Path.{_≡_, refl}
 use lib.Dec.{eqb}
-use Rattle.kinds.specs.ChoiceLaws.{every}
+use Rattle.kinds.specs.Choice.{every}
 use Rattle.kinds.specs.Kinds.{flags}
 use Rattle.kinds.specs.KindsLaws.{flag-every}
 use Rattle.records.specs.Record.{dwellInRange, maskInRange}

@@ -7,7 +7,7 @@ use mathlib.Core.Bool.{Bool, true, false, not, _&&_, _||_}
 use mathlib.Core.List.{List, [], _∷_}
 use lib.Dec.{eqb}
 use Rattle.kinds.specs.Choice.{if_then_else_, _⇒_}
-use Rattle.kinds.specs.ChoiceLaws.{every}
+use Rattle.kinds.specs.Choice.{every}
 use Rattle.kinds.specs.Kinds.{modes, tasks, lpaModes, tooStates, flags, modeIs, taskIs, lpaModeIs, tooStateIs, flagNumber}
 use Rattle.state.specs.State.{calibrationSound, physicsSound}
 use Rattle.records.specs.Record.{TOOTIMER, SIUREBOOT, STATUS, partsOfRecord}

@@ -18,7 +18,7 @@ use mathlib.Core.Bool.{true}
 use mathlib.Core.List.{List, [], _∷_, _++_}
 use mathlib.Core.Path.{_≡_, ap, sym, _∙_}
 use lib.ListN.{length, take}
-use Rattle.kinds.specs.ChoiceLaws.{every}
+use Rattle.kinds.specs.Choice.{every}
 use Rattle.state.specs.State.{sound}
 use Rattle.events.specs.Event.{partsOfEvent}
 use Rattle.records.specs.Record.{recordInRange}

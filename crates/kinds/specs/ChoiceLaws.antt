@@ -1,18 +1,32 @@
--- How the definitions choose, laws: what holds of all that a table lists holds of what is chosen; a kind and its numbers say the
--- same, once each of its numbers is read back. Nothing here is of the paper.
+-- How the definitions choose, laws: what holds of each choice, and of all that a list or a table has, holds of what is chosen; a kind
+-- and its numbers say the same, once each of its numbers is read back. Nothing here is of the paper.
 -- Assumes nothing.
 use Prim.Native.Nat.{ℕ, _<_}
-use mathlib.Core.Bool.{Bool, true, false, _&&_, true≢false, false≢true}
-use mathlib.Core.List.{List, [], _∷_}
+use mathlib.Core.Bool.{Bool, true, false, _&&_, true≢false, false≢true, and-assoc}
+use mathlib.Core.List.{List, [], _∷_, _++_}
 use mathlib.Core.Path.{_≡_, refl, ap}
 use borrow.Author.Tests.{eqb-true, ltb-true}
 use lib.Dec.{eqb, ltb}
-use Rattle.kinds.specs.Choice.{if_then_else_, numbered, select}
+use Rattle.kinds.specs.Choice.{if_then_else_, when, every, numbered, select}
 
 -- what holds of the first choice where it is taken, and of the second anyhow, holds of the one taken
 pub chosen : {A : Type 0} (P : A → Type 0) (test : Bool) (a b : A) → (test ≡ true → P a) → P b → P (if test then a else b)
 chosen P true a b p q = p refl
 chosen P false a b p q = q
+
+-- the same, of a second choice that holds where it is taken
+pub chosen-either : {A : Type 0} (P : A → Type 0) (test : Bool) (a b : A)
+    → (test ≡ true → P a) → (test ≡ false → P b) → P (if test then a else b)
+chosen-either P true a b p q = p refl
+chosen-either P false a b p q = q refl
+
+pub if-same : {A : Type 0} (test : Bool) (a : A) → (if test then a else a) ≡ a
+if-same true a = refl
+if-same false a = refl
+
+pub when-true : (t : Bool) (test : Unit {0} → Bool) → when t test ≡ true → t ≡ true → test tt ≡ true
+when-true true test passed holds = passed
+when-true false test passed holds = absurd (false≢true holds)
 
 pub and-left : (a b : Bool) → a && b ≡ true → a ≡ true
 and-left true b e = refl
@@ -21,6 +35,21 @@ and-left false b e = e
 pub and-right : (a b : Bool) → a && b ≡ true → b ≡ true
 and-right true b e = e
 and-right false b e = absurd (false≢true e)
+
+-- Tests of lists -----------------------------------------------------------------------------------------------------------
+
+module _ {A : Type 0} (test : A → Bool) where
+  pub every-append : (xs ys : List A) → every test (xs ++ ys) ≡ every test xs && every test ys
+  every-append [] ys = refl
+  every-append (x ∷ xs) ys = rw (every-append xs ys, and-assoc (test x) (every test xs) (every test ys))
+
+  pub every-if : (choice : Bool) (xs ys : List A)
+      → every test (if choice then xs else ys) ≡ (if choice then every test xs else every test ys)
+  every-if true xs ys = refl
+  every-if false xs ys = refl
+
+  pub every-both : (xs ys : List A) → every test xs ≡ true → every test ys ≡ true → every test (xs ++ ys) ≡ true
+  every-both xs ys all more = rw (every-append xs ys, all, more)
 
 -- Tables of numbers --------------------------------------------------------------------------------------------------------
 
@@ -41,11 +70,6 @@ select-holds P n [] other each rest = rest
 select-holds P n (row ∷ rows) other each rest =
     chosen (P n) (eqb n (row .0)) (row .1) (select n rows other) (λ e. rw (eqb-true n (row .0) e) (each .0))
     (select-holds P n rows other (each .1) rest)
-
--- a test that each thing of a list passes
-abbrev pub every : {A : Type 0} → (A → Bool) → List A → Bool
-every test [] = true
-every test (x ∷ xs) = test x && every test xs
 
 -- what is selected, unless it is `other`, has a number that passes what all the numbers of the table pass
 pub select-listed : {A : Type 0} (test : ℕ → Bool) (n : ℕ) (rows : List (ℕ × A)) (other found : A)

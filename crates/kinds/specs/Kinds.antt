@@ -5,7 +5,7 @@ use Prim.Native.Nat.{ℕ}
 use mathlib.Core.Bool.{Bool, true, false}
 use mathlib.Core.List.{List, [], _∷_}
 use lib.Dec.{eqb}
-use Rattle.kinds.specs.Choice.{numbered}
+use Rattle.kinds.specs.Choice.{numbered, some, place}
 use Rattle.kinds.specs.declared.mode.Mode.{Mode}
 use Rattle.kinds.specs.declared.mode.FoundMode.{FoundMode}
 use Rattle.kinds.specs.declared.task.Task.{Task}
@@ -114,6 +114,22 @@ statuses =
 
 abbrev pub statusOf : ℕ → FoundStatus
 statusOf n = numbered statusNumber FoundStatus.Found FoundStatus.Unknown statuses n
+
+abbrev pub statusIs : Status → Status → Bool
+statusIs a b = eqb (statusNumber a) (statusNumber b)
+
+-- the refusals, in the order in which they are looked for: the first that applies is the answer. Their numbers do not count here
+abbrev pub refusalOrder : List Status
+refusalOrder =
+    Status.NotRun ∷ Status.BadMode ∷ Status.TooAct ∷ Status.BadParam ∷ Status.Saa
+    ∷ Status.OthRun ∷ Status.OthStop ∷ Status.OthIdle ∷ Status.Stale ∷ []
+
+-- how many refusals are looked for before this one
+abbrev pub refusalPlace : Status → ℕ
+refusalPlace x = place (statusIs x) refusalOrder
+
+abbrev pub isRefusal : Status → Bool
+isRefusal x = some (statusIs x) refusalOrder
 
 -- the manager's answers: the status of what was taken, and the refusals that are not logged
 abbrev pub answerNumber : Answer → ℕ

@@ -1,13 +1,12 @@
 -- State, and Answers of the manager, laws: a number is that of one kind and is read back as it; the numbers fit 16 bits; what all of
 -- a kind's listed members pass, every member passes (`..-every`), so that a law about a kind may be one computed test.
 -- Assumes nothing.
-use Prim.Native.Nat.{ℕ, _≤_, _<_, _^_}
+use Prim.Native.Nat.{ℕ, _<_, _^_}
 use mathlib.Core.Bool.{Bool, true, false}
 use mathlib.Core.List.{[], _∷_}
 use mathlib.Core.Path.{_≡_, refl, ap}
-use native.Mathlib.Omega.{arith}
-use Rattle.kinds.specs.Choice.{numbered}
-use Rattle.kinds.specs.ChoiceLaws.{Kind, every, kind-number, kind-is, kind-every, kind-below}
+use Rattle.kinds.specs.Choice.{numbered, every}
+use Rattle.kinds.specs.ChoiceLaws.{Kind, kind-number, kind-is, kind-every, kind-below}
 use Rattle.kinds.specs.Kinds.{modeNumber, modes, modeOf, modeIs}
 use Rattle.kinds.specs.Kinds.{taskNumber, tasks, taskOf, taskIs}
 use Rattle.kinds.specs.Kinds.{lpaModeNumber, lpaModes, lpaModeOf, lpaModeIs}
@@ -144,12 +143,6 @@ status-kind = record { same = λ x y e. cc; apart = λ x e. cc; back = status-ba
 
 pub status-number : (n : ℕ) (s : Status) → statusOf n ≡ FoundStatus.Found s → statusNumber s ≡ n
 status-number n s e = kind-number status-kind n s e
-
-pub status-every : (test : Status → Bool) → every test statuses ≡ true → (s : Status) → test s ≡ true
-status-every test all s = kind-every status-kind test all s
-
-pub status-most : (s : Status) → statusNumber s ≤ 11
-status-most s = omega (arith, kind-below status-kind 12 refl s)
 
 pub status-fits : (s : Status) → statusNumber s < 2 ^ 16
 status-fits s = kind-below status-kind (2 ^ 16) refl s

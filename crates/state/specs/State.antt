@@ -36,6 +36,10 @@ rebooted n = stateOf Mode.Boot Task.Idle Task.Idle LpaMode.Normal false false fa
 abbrev pub fresh : State
 fresh = rebooted 0
 
+-- a timer is on where it names an event
+abbrev pub timerOn : ℕ → Bool
+timerOn n = not (eqb n 0)
+
 -- (a) calibration runs only in CALIBRATION, which never has it idle
 unfoldable pub calibrationSound : State → Bool
 calibrationSound s =
@@ -51,13 +55,12 @@ physicsSound s =
     && not (s .saa))
     && (modeIs (s .mode) Mode.Physics ⇒ not (taskIs (s .lpa) Task.Idle))
 
--- (c) the target of opportunity and its timer are there in mode TOO and nowhere else; the timer names an event that was
+-- (c) the target of opportunity and its timer are there in mode TOO and nowhere else
 unfoldable pub tooSound : State → Bool
 tooSound s =
-    (if modeIs (s .mode) Mode.Too
-    then not (tooStateIs (s .too) TooState.None) && not (eqb (s .armed) 0)
-    else tooStateIs (s .too) TooState.None && eqb (s .armed) 0)
-    && leb (s .armed) (s .count)
+    if modeIs (s .mode) Mode.Too
+    then not (tooStateIs (s .too) TooState.None) && timerOn (s .armed)
+    else tooStateIs (s .too) TooState.None && not (timerOn (s .armed))
 
 -- (d) in BOOT all but the count is zero
 unfoldable pub bootSound : State → Bool
@@ -70,10 +73,19 @@ bootSound s =
     && not (s .«lci_awaited»)
     && not (s .«lpa_awaited»)
     && tooStateIs (s .too) TooState.None
-    && eqb (s .armed) 0)
+    && not (timerOn (s .armed)))
+
+-- (c), last part: the timer names an event that was
+abbrev pub numbersSound : State → Bool
+numbersSound s = leb (s .armed) (s .count)
+
+-- Soundness is in two parts, so that what the rules keep of it can be computed. The clauses of the shape look at a timer only through
+-- `timerOn`: there are few shapes, and all of them are tried. What compares two numbers stands apart, and is proved.
+unfoldable pub shapeSound : State → Bool
+shapeSound s = calibrationSound s && physicsSound s && tooSound s && bootSound s
 
 unfoldable pub sound : State → Bool
-sound s = calibrationSound s && physicsSound s && tooSound s && bootSound s
+sound s = shapeSound s && numbersSound s
 
 -- the state with one field changed, in the fields' order
 abbrev pub withMode : State → Mode → State

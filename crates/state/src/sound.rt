@@ -1,6 +1,6 @@
-// Which states are sound (State): the clauses (a) to (d), as they stand in the book.
+// Which states are sound (State): the clauses (a) to (d), as they stand in the book, those of the shape first and then the numbers.
 ghost use mathlib.Core.Path.{_≡_};
-ghost use Rattle.state.specs.State.{sound, calibrationSound, physicsSound, tooSound, bootSound};
+ghost use Rattle.state.specs.State.{sound, shapeSound, numbersSound, calibrationSound, physicsSound, tooSound, bootSound};
 use crate::State;
 use kinds::LpaMode;
 use kinds::Mode;
@@ -11,8 +11,20 @@ impl State {
     pub fn sound(self) -> bool
         ensures { λ r. ⌜ r ≡ sound self ⌝ }
     {
-        calibration_sound(self) & physics_sound(self) & too_sound(self) & boot_sound(self)
+        shape_sound(self) & numbers_sound(self)
     }
+}
+
+fn shape_sound(s: State) -> bool
+    ensures { λ r. ⌜ r ≡ shapeSound s ⌝ }
+{
+    calibration_sound(s) & physics_sound(s) & too_sound(s) & boot_sound(s)
+}
+
+fn numbers_sound(s: State) -> bool
+    ensures { λ r. ⌜ r ≡ numbersSound s ⌝ }
+{
+    s.armed <= s.count
 }
 
 fn calibration_sound(s: State) -> bool
@@ -42,12 +54,11 @@ fn too_sound(s: State) -> bool
     let mode = s.mode;
     let too = s.too;
     let none = too.is(TooState::None);
-    let unarmed = s.armed == 0;
-    let past = s.armed <= s.count;
+    let on = s.armed != 0;
     if mode.is(Mode::Too) {
-        !none & !unarmed & past
+        !none & on
     } else {
-        none & unarmed & past
+        none & !on
     }
 }
 
@@ -62,5 +73,5 @@ fn boot_sound(s: State) -> bool
     let booting = mode.is(Mode::Boot);
     let idle = lci.is(Task::Idle) & lpa.is(Task::Idle) & lpa_mode.is(LpaMode::Normal);
     let quiet = idle & !s.saa & !s.lci_awaited & !s.lpa_awaited;
-    !booting | quiet & too.is(TooState::None) & (s.armed == 0)
+    !booting | quiet & too.is(TooState::None) & !(s.armed != 0)
 }

@@ -1,4 +1,4 @@
--- Soundness is its four clauses.
+-- Soundness is that of the shape and that of the numbers.
 -- Assumes nothing.
 use borrow.Author.Needs.{needs}
 use Rattle.state.specs.State.{sound}
@@ -7,4 +7,4 @@ use Rattle.state.proofs.State.sound.Tie as tie
 
 pub sound-spec : {M : Type 1} → statement M
 unfolding sound
-sound-spec = tie.close (tie.spec (λ c κs. search needs) (λ c κs. search needs) (λ c κs. search needs) (λ c κs. search needs) (λ c. cc))
+sound-spec = tie.close (tie.spec (λ c κs. search needs) (λ c κs. search needs) (λ c. cc))

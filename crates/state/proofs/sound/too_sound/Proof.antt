@@ -8,5 +8,5 @@ use Rattle.state.proofs.sound.too_sound.Tie as tie
 pub too-sound-spec : {M : Type 1} → statement M
 unfolding tooSound
 too-sound-spec = tie.close (tie.spec (λ c κs. search needs) (λ c κs. search needs)
-    (λ c. simp (c .before .before .before .before .is .ensures, ← c .before .is2 .ensures, c .if1 .taken))
-    (λ c. simp (c .before .before .before .before .is .ensures, ← c .before .is2 .ensures, c .if1 .left)))
+    (λ c. simp (c .before .before .before .is .ensures, ← c .before .is2 .ensures, c .if1 .taken))
+    (λ c. simp (c .before .before .before .is .ensures, ← c .before .is2 .ensures, c .if1 .left)))
