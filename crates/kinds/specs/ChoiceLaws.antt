@@ -7,7 +7,7 @@ use mathlib.Core.List.{List, [], _∷_, _++_}
 use mathlib.Core.Path.{_≡_, refl, ap}
 use borrow.Author.Tests.{eqb-true, ltb-true}
 use lib.Dec.{eqb, ltb}
-use Rattle.kinds.specs.Choice.{if_then_else_, when, every, numbered, select}
+use Rattle.kinds.specs.Choice.{if_then_else_, when, every, some, numbered, select}
 
 -- what holds of the first choice where it is taken, and of the second anyhow, holds of the one taken
 pub chosen : {A : Type 0} (P : A → Type 0) (test : Bool) (a b : A) → (test ≡ true → P a) → P b → P (if test then a else b)
@@ -50,6 +50,16 @@ module _ {A : Type 0} (test : A → Bool) where
 
   pub every-both : (xs ys : List A) → every test xs ≡ true → every test ys ≡ true → every test (xs ++ ys) ≡ true
   every-both xs ys all more = rw (every-append xs ys, all, more)
+
+-- where each passes one test, none passes another that goes against it
+pub every-none : {A : Type 0} (test against : A → Bool) → ((x : A) → test x ≡ true → against x ≡ false)
+    → (xs : List A) → every test xs ≡ true → some against xs ≡ false
+every-none test against apart [] all = refl
+every-none test against apart (x ∷ xs) all =
+    rw (
+      apart x (and-left (test x) (every test xs) all),
+      every-none test against apart xs (and-right (test x) (every test xs) all),
+    )
 
 -- Tables of numbers --------------------------------------------------------------------------------------------------------
 

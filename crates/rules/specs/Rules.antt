@@ -1,5 +1,4 @@
--- Mode rules, one definition an event, in the paper's order. "Else" of the paper is the refusal BadMode. Where a rule asks whether a
--- number that came with the event is right, the answer is its last argument, and `ruleOf` gives it.
+-- Mode rules, one definition an event, in the paper's order. "Else" of the paper is the refusal BadMode.
 -- Assumes nothing.
 use Prim.Native.Nat.{ℕ}
 use mathlib.Core.Bool.{Bool, true, false, not, _&&_, _||_}
@@ -36,17 +35,17 @@ mainFeedOn s =
 abbrev pub configured : State → Record
 configured s = if s .saa then Record.SaaCfg else Record.NonSaaCfg
 
-abbrev pub powerOn : State → ℕ → Bool → Rule
-powerOn s mask inRange =
+abbrev pub powerOn : State → ℕ → Rule
+powerOn s mask =
     rule
-    (only (inMode s Mode.Quiescent) ∷ (Status.BadParam, not inRange) ∷ [])
+    (only (inMode s Mode.Quiescent) ∷ (Status.BadParam, not (maskInRange mask)) ∷ [])
     Status.Success
     (Record.PowerOn mask ∷ configured s ∷ [])
 
-abbrev pub powerOff : State → ℕ → Bool → Rule
-powerOff s mask inRange =
+abbrev pub powerOff : State → ℕ → Rule
+powerOff s mask =
     rule
-    (only (inMode s Mode.Quiescent) ∷ (Status.BadParam, not inRange) ∷ [])
+    (only (inMode s Mode.Quiescent) ∷ (Status.BadParam, not (maskInRange mask)) ∷ [])
     Status.Success
     (Record.PowerOff mask ∷ [])
 
@@ -185,12 +184,12 @@ tooStarting s run dwell =
     else Record.TooState TooState.Waiting ∷ [])
     ++ Record.OpMode Mode.Too ∷ []
 
-abbrev pub tooStart : State → ℕ → ℕ → Bool → Rule
-tooStart s run dwell inRange =
+abbrev pub tooStart : State → ℕ → ℕ → Rule
+tooStart s run dwell =
     rule
     (only (inMode s Mode.Too || inMode s Mode.Quiescent || inMode s Mode.Physics)
     ∷ (Status.TooAct, inMode s Mode.Too)
-    ∷ (Status.BadParam, not inRange)
+    ∷ (Status.BadParam, not (dwellInRange dwell))
     ∷ [])
     (if startsPhysics s then Status.PktSent else Status.Success)
     (tooStarting s run dwell)
@@ -206,15 +205,15 @@ leaveToo s =
 abbrev pub tooAbort : State → Rule
 tooAbort s = rule (only (inMode s Mode.Too) ∷ []) Status.Success (leaveToo s)
 
-abbrev pub tooExpired : State → Bool → Rule
-tooExpired s named = rule ((Status.Stale, not (inMode s Mode.Too && named)) ∷ []) Status.Success (leaveToo s)
+abbrev pub tooExpired : State → ℕ → Rule
+tooExpired s armed = rule ((Status.Stale, not (inMode s Mode.Too && eqb armed (s .armed))) ∷ []) Status.Success (leaveToo s)
 
 -- the rule of an event
 unfoldable pub ruleOf : State → Event → Rule
 ruleOf s Event.Started = started s
 ruleOf s Event.MainFeedOn = mainFeedOn s
-ruleOf s (Event.PowerOn mask) = powerOn s mask (maskInRange mask)
-ruleOf s (Event.PowerOff mask) = powerOff s mask (maskInRange mask)
+ruleOf s (Event.PowerOn mask) = powerOn s mask
+ruleOf s (Event.PowerOff mask) = powerOff s mask
 ruleOf s Event.HoldEnter = holdEnter s
 ruleOf s Event.HoldExit = holdExit s
 ruleOf s Event.SaaEnter = saaEnter s
@@ -227,9 +226,9 @@ ruleOf s Event.CalOther = calOther s
 ruleOf s (Event.LpaStart run) = lpaStart s run
 ruleOf s Event.LpaStop = lpaStop s
 ruleOf s Event.LpaOther = lpaOther s
-ruleOf s (Event.TooStart run dwell) = tooStart s run dwell (dwellInRange dwell)
+ruleOf s (Event.TooStart run dwell) = tooStart s run dwell
 ruleOf s Event.TooAbort = tooAbort s
-ruleOf s (Event.TooExpired armed) = tooExpired s (eqb armed (s .armed))
+ruleOf s (Event.TooExpired armed) = tooExpired s armed
 ruleOf s (Event.CalStatus good) = calStatus s good
 ruleOf s Event.CalComplete = calComplete s
 ruleOf s (Event.LpaStatus good) = lpaStatus s good

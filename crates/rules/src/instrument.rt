@@ -72,7 +72,7 @@ fn configured(s: State) -> Record
 }
 
 pub(crate) fn power_on(s: State, mask: u32) -> Ruling
-    ensures { λ r. ⌜ r ≡ ruledAs s (decide (powerOn s mask (maskInRange mask))) ⌝ }
+    ensures { λ r. ⌜ r ≡ ruledAs s (decide (powerOn s mask)) ⌝ }
 {
     if !in_mode(s, Mode::Quiescent) {
         return records_0(s, Status::BadMode);
@@ -84,7 +84,7 @@ pub(crate) fn power_on(s: State, mask: u32) -> Ruling
 }
 
 pub(crate) fn power_off(s: State, mask: u32) -> Ruling
-    ensures { λ r. ⌜ r ≡ ruledAs s (decide (powerOff s mask (maskInRange mask))) ⌝ }
+    ensures { λ r. ⌜ r ≡ ruledAs s (decide (powerOff s mask)) ⌝ }
 {
     if !in_mode(s, Mode::Quiescent) {
         return records_0(s, Status::BadMode);

@@ -23,7 +23,7 @@ use records::Record;
 use state::State;
 
 pub(crate) fn too_start(s: State, run: u32, dwell: u32) -> Ruling
-    ensures { λ r. ⌜ r ≡ ruledAs s (decide (tooStart s run dwell (dwellInRange dwell))) ⌝ }
+    ensures { λ r. ⌜ r ≡ ruledAs s (decide (tooStart s run dwell)) ⌝ }
 {
     let too = in_mode(s, Mode::Too);
     if !(too | in_mode(s, Mode::Quiescent) | in_mode(s, Mode::Physics)) {
@@ -81,7 +81,7 @@ pub(crate) fn too_abort(s: State) -> Ruling
 }
 
 pub(crate) fn too_expired(s: State, armed: u32) -> Ruling
-    ensures { λ r. ⌜ r ≡ ruledAs s (decide (tooExpired s (eqb armed (s .armed)))) ⌝ }
+    ensures { λ r. ⌜ r ≡ ruledAs s (decide (tooExpired s armed)) ⌝ }
 {
     if !(in_mode(s, Mode::Too) & (armed == s.armed)) {
         return records_0(s, Status::Stale);

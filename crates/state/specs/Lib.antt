@@ -1,3 +1,4 @@
 pub mod State
+pub mod StateLaws
 pub mod Effect
 pub mod EffectLaws
