@@ -26,37 +26,134 @@ use Rattle.book.specs.RefusalLaws.{verdict-records}
 use Rattle.book.specs.Outline.{outline, everyOutline, keeps, passesBy, passes}
 use Rattle.book.specs.OutlineLaws.{outline-shape, outline-every}
 
-tried : (s : State) (e : Event) → everyOutline (passes s e) s ≡ true
+abbrev Tried : State → Event → Type 0
+Tried s e = everyOutline (passes s e) s ≡ true
+
+-- One test an event, so that none is dear, and a wrong rule is named -----------------------------------------------------------
+
+started-tried : (s : State) → Tried s Event.Started
 unfolding everyOutline passes
-tried s Event.Started = refl
-tried s Event.MainFeedOn = refl
-tried s (Event.PowerOn mask) = refl
-tried s (Event.PowerOff mask) = refl
-tried s Event.HoldEnter = refl
-tried s Event.HoldExit = refl
-tried s Event.SaaEnter = refl
-tried s Event.SaaExit = refl
-tried s Event.LoadShed = refl
-tried s Event.NoOp = refl
-tried s Event.CalStart = refl
-tried s Event.CalAbort = refl
-tried s Event.CalOther = refl
-tried s (Event.LpaStart run) = refl
-tried s Event.LpaStop = refl
-tried s Event.LpaOther = refl
-tried s (Event.TooStart run dwell) = refl
-tried s Event.TooAbort = refl
-tried s (Event.TooExpired armed) = refl
+started-tried s = refl
+
+main-feed-on-tried : (s : State) → Tried s Event.MainFeedOn
+unfolding everyOutline passes
+main-feed-on-tried s = refl
+
+power-on-tried : (s : State) (mask : ℕ) → Tried s (Event.PowerOn mask)
+unfolding everyOutline passes
+power-on-tried s mask = refl
+
+power-off-tried : (s : State) (mask : ℕ) → Tried s (Event.PowerOff mask)
+unfolding everyOutline passes
+power-off-tried s mask = refl
+
+hold-enter-tried : (s : State) → Tried s Event.HoldEnter
+unfolding everyOutline passes
+hold-enter-tried s = refl
+
+hold-exit-tried : (s : State) → Tried s Event.HoldExit
+unfolding everyOutline passes
+hold-exit-tried s = refl
+
+saa-enter-tried : (s : State) → Tried s Event.SaaEnter
+unfolding everyOutline passes
+saa-enter-tried s = refl
+
+saa-exit-tried : (s : State) → Tried s Event.SaaExit
+unfolding everyOutline passes
+saa-exit-tried s = refl
+
+load-shed-tried : (s : State) → Tried s Event.LoadShed
+unfolding everyOutline passes
+load-shed-tried s = refl
+
+no-op-tried : (s : State) → Tried s Event.NoOp
+unfolding everyOutline passes
+no-op-tried s = refl
+
+cal-start-tried : (s : State) → Tried s Event.CalStart
+unfolding everyOutline passes
+cal-start-tried s = refl
+
+cal-abort-tried : (s : State) → Tried s Event.CalAbort
+unfolding everyOutline passes
+cal-abort-tried s = refl
+
+cal-other-tried : (s : State) → Tried s Event.CalOther
+unfolding everyOutline passes
+cal-other-tried s = refl
+
+lpa-start-tried : (s : State) (run : ℕ) → Tried s (Event.LpaStart run)
+unfolding everyOutline passes
+lpa-start-tried s run = refl
+
+lpa-stop-tried : (s : State) → Tried s Event.LpaStop
+unfolding everyOutline passes
+lpa-stop-tried s = refl
+
+lpa-other-tried : (s : State) → Tried s Event.LpaOther
+unfolding everyOutline passes
+lpa-other-tried s = refl
+
+too-start-tried : (s : State) (run : ℕ) (dwell : ℕ) → Tried s (Event.TooStart run dwell)
+unfolding everyOutline passes
+too-start-tried s run dwell = refl
+
+too-abort-tried : (s : State) → Tried s Event.TooAbort
+unfolding everyOutline passes
+too-abort-tried s = refl
+
+too-expired-tried : (s : State) (armed : ℕ) → Tried s (Event.TooExpired armed)
+unfolding everyOutline passes
+too-expired-tried s armed = refl
+
+-- a report's rule reads whether a start is awaited: that is tried both ways
+cal-status-tried : (s : State) → every (λ awaited. every (λ good. everyOutline (passes (withLciAwaited s awaited) (Event.CalStatus good)) (withLciAwaited s awaited)) flags) flags ≡ true
+unfolding everyOutline passes
+cal-status-tried s = refl
+
+cal-complete-tried : (s : State) → Tried s Event.CalComplete
+unfolding everyOutline passes
+cal-complete-tried s = refl
+
+lpa-status-tried : (s : State) → every (λ awaited. every (λ good. everyOutline (passes (withLpaAwaited s awaited) (Event.LpaStatus good)) (withLpaAwaited s awaited)) flags) flags ≡ true
+unfolding everyOutline passes
+lpa-status-tried s = refl
+
+lpa-complete-tried : (s : State) → Tried s Event.LpaComplete
+unfolding everyOutline passes
+lpa-complete-tried s = refl
+
+tried : (s : State) (e : Event) → Tried s e
+tried s Event.Started = started-tried s
+tried s Event.MainFeedOn = main-feed-on-tried s
+tried s (Event.PowerOn mask) = power-on-tried s mask
+tried s (Event.PowerOff mask) = power-off-tried s mask
+tried s Event.HoldEnter = hold-enter-tried s
+tried s Event.HoldExit = hold-exit-tried s
+tried s Event.SaaEnter = saa-enter-tried s
+tried s Event.SaaExit = saa-exit-tried s
+tried s Event.LoadShed = load-shed-tried s
+tried s Event.NoOp = no-op-tried s
+tried s Event.CalStart = cal-start-tried s
+tried s Event.CalAbort = cal-abort-tried s
+tried s Event.CalOther = cal-other-tried s
+tried s (Event.LpaStart run) = lpa-start-tried s run
+tried s Event.LpaStop = lpa-stop-tried s
+tried s Event.LpaOther = lpa-other-tried s
+tried s (Event.TooStart run dwell) = too-start-tried s run dwell
+tried s Event.TooAbort = too-abort-tried s
+tried s (Event.TooExpired armed) = too-expired-tried s armed
 tried s (Event.CalStatus good) =
     flag-every (λ g. everyOutline (passes s (Event.CalStatus g)) s)
-    (flag-every (λ x. every (λ g. everyOutline (passes (withLciAwaited s x) (Event.CalStatus g)) (withLciAwaited s x)) flags) refl (s .«lci_awaited»))
+    (flag-every (λ x. every (λ g. everyOutline (passes (withLciAwaited s x) (Event.CalStatus g)) (withLciAwaited s x)) flags) (cal-status-tried s) (s .«lci_awaited»))
     good
-tried s Event.CalComplete = refl
+tried s Event.CalComplete = cal-complete-tried s
 tried s (Event.LpaStatus good) =
     flag-every (λ g. everyOutline (passes s (Event.LpaStatus g)) s)
-    (flag-every (λ x. every (λ g. everyOutline (passes (withLpaAwaited s x) (Event.LpaStatus g)) (withLpaAwaited s x)) flags) refl (s .«lpa_awaited»))
+    (flag-every (λ x. every (λ g. everyOutline (passes (withLpaAwaited s x) (Event.LpaStatus g)) (withLpaAwaited s x)) flags) (lpa-status-tried s) (s .«lpa_awaited»))
     good
-tried s Event.LpaComplete = refl
+tried s Event.LpaComplete = lpa-complete-tried s
 
 -- what passes and is not refused keeps the shape
 passed-keeps : (unheard kept : Bool) (refusals : List (Status × Bool)) → unheard || (kept || some met refusals) ≡ true

@@ -48,8 +48,7 @@ module _ (test : State → Bool) (s : State) (shape : shapeSound (outline s) ≡
   unfolding shapeSound
   clauses =
       let three = and-left (calibrationSound (outline s) && physicsSound (outline s) && tooSound (outline s)) (bootSound (outline s)) shape in
-      let two = and-left (calibrationSound (outline s) && physicsSound (outline s)) (tooSound (outline s)) three in
-      (
+      let two = and-left (calibrationSound (outline s) && physicsSound (outline s)) (tooSound (outline s)) three in (
         and-left (calibrationSound (outline s)) (physicsSound (outline s)) two,
         and-right (calibrationSound (outline s)) (physicsSound (outline s)) two,
         and-right (calibrationSound (outline s) && physicsSound (outline s)) (tooSound (outline s)) three,

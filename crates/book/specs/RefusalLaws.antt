@@ -133,12 +133,11 @@ rule-formed s Event.CalOther = (refl, refl, refl)
 rule-formed s (Event.LpaStart run) = (refl, refl, simp every-pushed)
 rule-formed s Event.LpaStop = (refl, refl, refl)
 rule-formed s Event.LpaOther = (refl, refl, refl)
-rule-formed s (Event.TooStart run dwell) =
-    (
-      refl,
-      chosen (λ (x : Status). isRefusal x ≡ false) (startsPhysics s) Status.PktSent Status.Success (λ _. refl) refl,
-      simp every-pushed,
-    )
+rule-formed s (Event.TooStart run dwell) = (
+  refl,
+  chosen (λ (x : Status). isRefusal x ≡ false) (startsPhysics s) Status.PktSent Status.Success (λ _. refl) refl,
+  simp every-pushed,
+)
 rule-formed s Event.TooAbort = (refl, refl, simp every-pushed)
 rule-formed s (Event.TooExpired armed) = (refl, refl, simp every-pushed)
 rule-formed s (Event.CalStatus good) = (refl, refl, simp every-pushed)
