@@ -2,11 +2,11 @@
 -- from the laws of the book; the other files of this crate name no rule, and open neither a verdict, nor `sound`, nor `effect`. A new
 -- event, rule, mode or record is paid for in the book and does not touch this crate.
 --
--- Of the book: script-form, records-no-status, records-length, script-range, script-fits, next-count, next-sound, one-more-below,
--- ruling-held, ruling-state, ruling-count, ruling-bytes; and records-bytes-append.
--- Of the kinds: effect-count (no record but STATUS changes the count). Opened: `rebooted`, that fresh has count 0, and `partsOfRecord`
+-- Of the book: script-form, records-no-status, records-length, script-range, script-fits, next-count, next-sound, ruling-held,
+-- ruling-state, ruling-count, ruling-bytes.
+-- Of the state: one-more-below; effect-count (no record but STATUS changes the count). Opened: `rebooted`, that fresh has count 0, and `partsOfRecord`
 -- at STATUS, that v is the event's number.
--- Of the layouts: event-fits (an event that is read from bytes has 32-bit numbers); record-read, record-bytes-length; head-length,
+-- Of the layouts: event-fits (an event that is read from bytes has 32-bit numbers); record-read, record-bytes-length, records-bytes-append; head-length,
 -- checked-length, block-intact, block-head; intact-length, intact-check, intact-other-length, intact-wrong-check. Opened: `blockBytes`,
 -- `checkedBytes`, `zerosBetween`.
 -- Of the reader: its table row by row (read-damaged, read-other-log, read-already, read-gap, read-in-turn), fresh-sound, read-sound,
@@ -17,27 +17,25 @@ use Prim.Native.Nat.{ℕ, _+_, _*_, _^_, _<_, _≤_}
 use mathlib.Core.Bool.{true}
 use mathlib.Core.List.{List, [], _∷_, _++_}
 use mathlib.Core.Path.{_≡_, ap, sym, _∙_}
+use native.Mathlib.Omega.{arith}
 use lib.ListN.{length, take}
 use Rattle.kinds.specs.Choice.{every}
 use Rattle.state.specs.State.{sound}
 use Rattle.events.specs.Event.{partsOfEvent}
-use Rattle.records.specs.Record.{recordInRange}
+use Rattle.records.specs.Record.{notStatus, recordInRange, vFits}
+use Rattle.layout.specs.Record.{recordsBytes}
+use Rattle.state.specs.Effect.{effects}
+use Rattle.state.specs.EffectLaws.{one-more-below}
 use Rattle.state.specs.declared.State.{State}
 use Rattle.kinds.specs.declared.status.Status.{Status}
 use Rattle.events.specs.declared.Event.{Event}
 use Rattle.records.specs.declared.Record.{Record}
 use Rattle.draft.specs.declared.Draft.{Draft}
 use Rattle.rules.specs.Rules.{verdictOf}
-use Rattle.rules.specs.Script.{effects, script, next}
+use Rattle.rules.specs.Script.{script, next}
 use Rattle.rules.specs.Ruling.{rulingOf}
-use Rattle.book.specs.Shape.{notStatus}
-use Rattle.book.specs.TimerLaws.{one-more-below}
-use Rattle.book.specs.ScriptLaws.{script-form, records-no-status, records-length, next-count}
-use Rattle.book.specs.NextLaws.{next-sound}
-use Rattle.book.specs.RangeLaws.{script-range, script-fits}
-use Rattle.book.specs.Passing.{vFits}
-use Rattle.book.specs.Held.{recordsBytes}
-use Rattle.book.specs.RulingLaws.{ruling-held, ruling-state, ruling-count, ruling-bytes}
+use Rattle.book.specs.Book.{script-form, records-no-status, records-length, script-range, script-fits, next-count, next-sound}
+use Rattle.book.specs.Book.{ruling-held, ruling-state, ruling-count, ruling-bytes}
 
 -- the records of an event: its actions, and the STATUS that closes it with the next number
 abbrev pub whole : State → List Record → Status → List Record
@@ -74,8 +72,8 @@ module _ (s : State) (e : Event) (ok : sound s ≡ true) (below : s .count < 4_2
         actions = verdictOf s e .records;
         status = verdictOf s e .status;
         quiet = records-no-status s e;
-        few = records-length s e ok;
-        range = sym (ap (every recordInRange) script-whole) ∙ script-range s e;
+        few = omega (arith, records-length s e ok);
+        range = sym (ap (every recordInRange) script-whole) ∙ script-range s e ok;
         fit = sym (ap (every vFits) script-whole) ∙ script-fits s e a b;
         sound = sym (ap sound next-whole) ∙ next-sound s e ok below;
         number = sym (ap (λ (t : State). t .count) next-whole) ∙ next-count s e below;

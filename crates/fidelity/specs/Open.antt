@@ -8,13 +8,12 @@ use mathlib.Core.Logic.{_⊎_}
 use mathlib.Core.Path.{_≡_}
 use lib.ListN.{length, take}
 use Rattle.kinds.specs.Choice.{every}
-use Rattle.records.specs.Record.{recordInRange}
+use Rattle.records.specs.Record.{recordInRange, vFits}
+use Rattle.layout.specs.Record.{recordsBytes}
 use Rattle.state.specs.declared.State.{State}
 use Rattle.kinds.specs.declared.status.Status.{Status}
 use Rattle.records.specs.declared.Record.{Record}
 use Rattle.layout.specs.declared.block.Head.{Head}
-use Rattle.book.specs.Passing.{vFits}
-use Rattle.book.specs.Held.{recordsBytes}
 use Rattle.reader.specs.declared.content.Content.{Content}
 use Rattle.fidelity.specs.Replay.{replay}
 

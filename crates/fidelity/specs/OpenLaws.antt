@@ -11,8 +11,8 @@ use borrow.Author.Tests.{le-leb}
 use lib.ListN.{length, take, drop, length-append, length-replicate, take-append-drop}
 use lib.Seq.{take-at, take-all, drop-append-add, length-paste, take-paste, paste}
 use Rattle.frame_check.specs.Check.{checkOf}
-use Rattle.kinds.specs.ChoiceLaws.{every, and-left, and-right}
-use Rattle.records.specs.Record.{recordInRange, partsOfRecord}
+use Rattle.kinds.specs.ChoiceLaws.{every-both}
+use Rattle.records.specs.Record.{recordInRange, vFits, partsOfRecord}
 use Rattle.state.specs.declared.State.{State}
 use Rattle.kinds.specs.declared.status.Status.{Status}
 use Rattle.records.specs.declared.Record.{Record}
@@ -20,13 +20,11 @@ use Rattle.records.specs.declared.Reading.{Reading}
 use Rattle.layout.specs.Bytes.{two}
 use Rattle.layout.specs.Block.{headOf, usedInRange, headBytes, checkedBytes, blockBytes}
 use Rattle.layout.specs.BlockLaws.{head-length, checked-length, block-intact, block-head}
-use Rattle.layout.specs.Record.{readRecord}
+use Rattle.layout.specs.Record.{readRecord, recordsBytes}
+use Rattle.layout.specs.RecordLaws.{records-bytes-append}
 use Rattle.layout.specs.Zeros.{zerosBetween}
 use Rattle.layout.specs.declared.block.Head.{Head}
 use Rattle.draft.specs.declared.Draft.{Draft}
-use Rattle.book.specs.Passing.{vFits}
-use Rattle.book.specs.Held.{recordsBytes}
-use Rattle.book.specs.HeldLaws.{records-bytes-append}
 use Rattle.manager.specs.Log.{blankArea, areaWith}
 use Rattle.reader.specs.Content.{place, reads, contentOf}
 use Rattle.reader.specs.ContentLaws.{content-read}
@@ -37,11 +35,6 @@ use Rattle.fidelity.specs.Replay.{StandIn}
 use Rattle.fidelity.specs.ReplayLaws.{reads-replay, replay-append, replay-event, stand-in}
 use Rattle.fidelity.specs.Chain.{Link}
 use Rattle.fidelity.specs.Open.{Ends, Open}
-
-every-append : (p : Record → Bool) (xs ys : List Record) → every p xs ≡ true → every p ys ≡ true → every p (xs ++ ys) ≡ true
-every-append p [] ys all more = more
-every-append p (x ∷ xs) ys all more =
-    rw (and-left (p x) (every p xs) all, every-append p xs ys (and-right (p x) (every p xs) all) more)
 
 pub open-blank : (s : State) (h : Head) → h .used ≡ 0 → h .before ≡ s .count → Open s h blankArea s
 open-blank s h used before =
@@ -105,8 +98,8 @@ module _ (s t : State) (h h′ : Head) (area : List ℕ) (d : Draft) (o : Open s
         full = length-paste area (8 * h .used) (d .bytes) (8 * d .count) (within .0) (within .1) ∙ o .full;
         stand = stand-all;
         used = used ∙ sym all-length;
-        range = every-append recordInRange (o .records) more (o .range) (r .range);
-        fit = every-append vFits (o .records) more (o .fit) (r .fit);
+        range = every-both recordInRange (o .records) more (o .range) (r .range);
+        fit = every-both vFits (o .records) more (o .fit) (r .fit);
         before = before ∙ o .before;
         leads =
             replay-append (o .records) more 0 s t (o .leads)

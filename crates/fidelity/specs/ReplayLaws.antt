@@ -9,21 +9,18 @@ use native.Mathlib.Omega.{arith}
 use borrow.Author.Tests.{eqb-true, eq-eqb, lt-leb, not-true, ltb-true}
 use lib.ListN.{length, length-append}
 use lib.Dec.{eqb}
-use Rattle.kinds.specs.ChoiceLaws.{every, and-left, and-right}
+use Rattle.kinds.specs.Choice.{every}
+use Rattle.kinds.specs.ChoiceLaws.{and-left, and-right}
 use Rattle.state.specs.State.{sound}
-use Rattle.state.specs.Effect.{effect}
+use Rattle.state.specs.Effect.{effect, effects}
 use Rattle.state.specs.EffectLaws.{effect-count}
-use Rattle.records.specs.Record.{partsOfRecord, recordInRange, STATUS}
+use Rattle.records.specs.Record.{partsOfRecord, recordInRange, notStatus, vFits, STATUS}
 use Rattle.state.specs.declared.State.{State}
 use Rattle.kinds.specs.declared.status.Status.{Status}
 use Rattle.records.specs.declared.Record.{Record}
 use Rattle.records.specs.declared.Reading.{Reading}
-use Rattle.layout.specs.Record.{recordBytes}
+use Rattle.layout.specs.Record.{recordBytes, recordsBytes}
 use Rattle.layout.specs.RecordLaws.{record-read, record-bytes-length}
-use Rattle.rules.specs.Script.{effects}
-use Rattle.book.specs.Shape.{notStatus}
-use Rattle.book.specs.Passing.{vFits}
-use Rattle.book.specs.Held.{recordsBytes}
 use Rattle.reader.specs.Content.{closed, taken, followed, place, reads}
 use Rattle.reader.specs.ContentLaws.{picked}
 use Rattle.reader.specs.declared.content.Content.{Content}

@@ -11,7 +11,7 @@ use Rattle.frame_check.specs.Check.{checkOf, taps, feedBit, feedBits, feed}
 use Rattle.state.specs.Effect.{effect}
 use Rattle.events.specs.Event.{eventOf, partsOfEvent}
 use Rattle.records.specs.Record.{partsOfRecord, recordOf}
-use Rattle.state.specs.State.{rebooted, sound, calibrationSound, physicsSound, tooSound, bootSound}
+use Rattle.state.specs.State.{rebooted, sound, shapeSound, calibrationSound, physicsSound, tooSound, bootSound}
 use Rattle.kinds.specs.Kinds.{modeNumber}
 use Rattle.layout.specs.Bytes.{u16At, u32At, two, four}
 use Rattle.layout.specs.Block.{headOf, intact, headBytes, checkedBytes, blockBytes}
@@ -63,7 +63,7 @@ display g (b ∷ bs) = shown (readOf g b) (λ g′. display g′ bs)
 
 -- what is to be computed through: all of the manager, the layouts, the rules that these events meet, and the reader
 computed : ℕ
-unfolding checkOf taps feedBit feedBits feed rebooted sound calibrationSound physicsSound tooSound bootSound effect eventOf partsOfEvent partsOfRecord recordOf u16At u32At two four headOf intact headBytes checkedBytes blockBytes eventPartsAt readEvent recordPartsAt readRecord recordPartsBytes recordBytes allZero zerosBetween blank emitted ruleOf unheard verdictOf rulingOf logSound bothSound stepOf flushOf closed taken reads contentOf readerSound readOf runOf
+unfolding checkOf taps feedBit feedBits feed rebooted sound shapeSound calibrationSound physicsSound tooSound bootSound effect eventOf partsOfEvent partsOfRecord recordOf u16At u32At two four headOf intact headBytes checkedBytes blockBytes eventPartsAt readEvent recordPartsAt readRecord recordPartsBytes recordBytes allZero zerosBetween blank emitted ruleOf unheard verdictOf rulingOf logSound bothSound stepOf flushOf closed taken reads contentOf readerSound readOf runOf
 computed = 0
 
 displayed : display (freshReader 7) (down (runOf 7 asked .blocks) (runOf 8 (take 2 asked) .blocks))
