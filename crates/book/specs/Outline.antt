@@ -1,6 +1,6 @@
--- The outline of a state: what the shape of soundness sees of it. A timer counts as on or off, and the count as any number; what
--- the shape does not look at outside BOOT, the awaited starts, stays the state's own. So there are few outlines of sound shape, and what a rule
--- does to them all is one computed test.
+-- The outline of a state: what the shape of soundness sees of it. A timer counts as on or off, and the count as any; what the shape
+-- does not look at outside BOOT, the awaited starts, stays the state's own, unknown. So there are few outlines of sound shape, and what
+-- a rule does to all of them is one computed test.
 -- Assumes nothing.
 use Prim.Native.Nat.{ℕ}
 use mathlib.Core.Bool.{Bool, true, _&&_, _||_}
@@ -31,32 +31,47 @@ abbrev pub withNumbers : State → State → State
 withNumbers t s = withCount (withArmed t (s .armed)) (s .count)
 
 -- a test that passes whatever a field is, as far as a clause of soundness lets it
-abbrev pub whatever : {A : Type 0} → (State → A → State) → List A → (State → Bool) → (State → Bool) → State → Bool
-whatever put values clause test s = every (λ x. when (clause (put s x)) (λ _. test (put s x))) values
+abbrev pub forField : {A : Type 0} → (State → A → State) → List A → (State → Bool) → (State → Bool) → State → Bool
+forField put values clause test s = every (λ x. when (clause (put s x)) (λ _. test (put s x))) values
 
+-- no clause ends with this field
 abbrev pub unbound : State → Bool
 unbound s = true
 
--- a test that passes in every outline that soundness lets be, the state's own flags in it: field by field, each clause where its last
--- field is put in. The clause of BOOT is left out, for there only STARTED is heard, and TERMINAL asks no more
-unfoldable pub everyOutline : (State → Bool) → State → Bool
-unfolding calibrationSound physicsSound tooSound
-everyOutline test s =
-    whatever withMode modes unbound
-    (whatever withToo tooStates unbound
-    (whatever withTimer flags tooSound
-    (whatever withLci tasks calibrationSound
-    (whatever withLpa tasks unbound
-    (whatever withSaa flags unbound
-    (whatever withLpaMode lpaModes physicsSound test))))))
-    (withCount s 1)
+-- a test that passes in every outline: field by field, the last one first, and each clause where the last of its fields is put in. The
+-- clause of BOOT is left out, for only STARTED is heard there, and TERMINAL asks no more than the others
+module _ (test : State → Bool) where
+  abbrev pub forLpaMode : State → Bool
+  forLpaMode s = forField withLpaMode lpaModes physicsSound test s
+
+  abbrev pub forSaa : State → Bool
+  forSaa s = forField withSaa flags unbound forLpaMode s
+
+  abbrev pub forLpa : State → Bool
+  forLpa s = forField withLpa tasks unbound forSaa s
+
+  abbrev pub forLci : State → Bool
+  forLci s = forField withLci tasks calibrationSound forLpa s
+
+  abbrev pub forTimer : State → Bool
+  forTimer s = forField withTimer flags tooSound forLci s
+
+  abbrev pub forToo : State → Bool
+  forToo s = forField withToo tooStates unbound forTimer s
+
+  abbrev pub forMode : State → Bool
+  forMode s = forField withMode modes unbound forToo s
+
+  unfoldable pub everyOutline : State → Bool
+  unfolding calibrationSound physicsSound tooSound
+  everyOutline s = forMode (withCount s 1)
 
 -- there is room for the records and a STATUS, and the shape after them is sound
 abbrev pub keeps : State → List Record → Bool
 keeps t rs = ltb (length rs) MOST-RECORDS && shapeSound (effects t rs)
 
--- an event in a state and its outline: it is not heard, or what its rule does is sound, or the rule refuses it. A refusal's condition may compare
--- numbers, which are unknown here; it is looked at last, where only its mode or its tasks are asked for
+-- an event in a state, with its outline: it is not heard, or what its rule does is sound, or the rule refuses it. The condition of a
+-- refusal may compare numbers, which are unknown here; it is looked at last, and only where a mode or a task decides it
 abbrev pub passesBy : State → Event → State → Bool
 passesBy t e s = unheard s e || (keeps t (ruleOf s e .records) || some met (ruleOf s e .refusals))
 

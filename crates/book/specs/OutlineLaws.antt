@@ -18,7 +18,7 @@ use Rattle.state.specs.EffectLaws.{effect-count, one-more-below}
 use Rattle.state.specs.declared.State.{State}
 use Rattle.records.specs.Record.{notStatus, isStatus}
 use Rattle.records.specs.declared.Record.{Record}
-use Rattle.book.specs.Outline.{withTimer, outline, whatever, unbound, everyOutline}
+use Rattle.book.specs.Outline.{withTimer, outline, forField, unbound, forLpaMode, forSaa, forLpa, forLci, forTimer, forToo, everyOutline}
 
 -- a timer, told whether it is on, is on so
 timer-told : (n : ℕ) → timerOn (flagNumber (timerOn n)) ≡ timerOn n
@@ -37,10 +37,10 @@ outline-shape s = rw (timer-told (s .armed))
 
 -- Tests of every outline -----------------------------------------------------------------------------------------------------
 
-whatever-passes : {A : Type 0} (put : State → A → State) (values : List A) (clause test : State → Bool)
+for-field-passes : {A : Type 0} (put : State → A → State) (values : List A) (clause test : State → Bool)
     → ((each : A → Bool) → every each values ≡ true → (x : A) → each x ≡ true)
-    → (s : State) (x : A) → clause (put s x) ≡ true → whatever put values clause test s ≡ true → test (put s x) ≡ true
-whatever-passes put values clause test all s x holds passed =
+    → (s : State) (x : A) → clause (put s x) ≡ true → forField put values clause test s ≡ true → test (put s x) ≡ true
+for-field-passes put values clause test all s x holds passed =
     when-true (clause (put s x)) (λ _. test (put s x)) (all (λ y. when (clause (put s y)) (λ _. test (put s y))) passed x) holds
 
 module _ (test : State → Bool) (s : State) (shape : shapeSound (outline s) ≡ true) where
@@ -54,34 +54,16 @@ module _ (test : State → Bool) (s : State) (shape : shapeSound (outline s) ≡
         and-right (calibrationSound (outline s) && physicsSound (outline s)) (tooSound (outline s)) three,
       )
 
-  abbrev inLpaMode : State → Bool
-  inLpaMode t = whatever withLpaMode lpaModes physicsSound test t
-
-  abbrev inSaa : State → Bool
-  inSaa t = whatever withSaa flags unbound inLpaMode t
-
-  abbrev inLpa : State → Bool
-  inLpa t = whatever withLpa tasks unbound inSaa t
-
-  abbrev inLci : State → Bool
-  inLci t = whatever withLci tasks calibrationSound inLpa t
-
-  abbrev inTimer : State → Bool
-  inTimer t = whatever withTimer flags tooSound inLci t
-
-  abbrev inToo : State → Bool
-  inToo t = whatever withToo tooStates unbound inTimer t
-
   pub outline-every : everyOutline test s ≡ true → test (outline s) ≡ true
   unfolding everyOutline
   outline-every passed =
-      whatever-passes withLpaMode lpaModes physicsSound test lpa-mode-every (outline s) (s .«lpa_mode») (clauses .1)
-      (whatever-passes withSaa flags unbound inLpaMode flag-every (outline s) (s .saa) refl
-      (whatever-passes withLpa tasks unbound inSaa task-every (outline s) (s .lpa) refl
-      (whatever-passes withLci tasks calibrationSound inLpa task-every (outline s) (s .lci) (clauses .0)
-      (whatever-passes withTimer flags tooSound inLci flag-every (withCount s 1) (timerOn (s .armed)) (clauses .2)
-      (whatever-passes withToo tooStates unbound inTimer too-state-every (withCount s 1) (s .too) refl
-      (whatever-passes withMode modes unbound inToo mode-every (withCount s 1) (s .mode) refl passed))))))
+      for-field-passes withLpaMode lpaModes physicsSound test lpa-mode-every (outline s) (s .«lpa_mode») (clauses .1)
+      (for-field-passes withSaa flags unbound (forLpaMode test) flag-every (outline s) (s .saa) refl
+      (for-field-passes withLpa tasks unbound (forSaa test) task-every (outline s) (s .lpa) refl
+      (for-field-passes withLci tasks calibrationSound (forLpa test) task-every (outline s) (s .lci) (clauses .0)
+      (for-field-passes withTimer flags tooSound (forLci test) flag-every (withCount s 1) (timerOn (s .armed)) (clauses .2)
+      (for-field-passes withToo tooStates unbound (forTimer test) too-state-every (withCount s 1) (s .too) refl
+      (for-field-passes withMode modes unbound (forToo test) mode-every (withCount s 1) (s .mode) refl passed))))))
 
 -- Records in a state and in its outline --------------------------------------------------------------------------------------
 

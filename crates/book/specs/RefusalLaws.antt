@@ -102,8 +102,10 @@ pub unmet-as : (xs : List (Status × Bool)) (status : Status) → every unmet xs
 unmet-as xs status free =
     every-none unmet (metAs status) (λ x free. rw (not-true (x .1) free) (and-false (statusIs (x .0) status))) xs free
 
--- a test of each, pushed through what joins lists and what chooses between them
-pub ruleset every-pushed = (every-append, every-if, if-same)
+-- a test of each, pushed through what joins lists and what chooses between them; where both choices pass, no choice is left
+pub ruleset every-through = (every-append, every-if)
+
+pub ruleset every-pushed = (every-through, if-same)
 
 -- Each rule in any state -----------------------------------------------------------------------------------------------------
 
