@@ -202,7 +202,7 @@ module _ (number : ℕ) (small : number < 2 ^ 32) (r : Run) (k : Kept number r) 
   kept-heard event lent bytes FoundEvent.Unknown read = k
   kept-heard event lent bytes (FoundEvent.Found e) read =
       picked P (not (bothSound (now r) (head r) (area r))) (kept (now r) (head r) (area r) lent Answer.BadState) sounded (λ _. k)
-      (λ own. picked P (eqb (now r .count) LAST) (kept (now r) (head r) (area r) lent Answer.Full) ruling (λ _. k)
+      (λ own. picked P (eqb (now r .count) LAST-NUMBER) (kept (now r) (head r) (area r) lent Answer.Full) ruling (λ _. k)
       (λ below. taken (not-false (bothSound (now r) (head r) (area r)) own)
       (eqb-false (now r .count) LAST-NUMBER below)))
     where
