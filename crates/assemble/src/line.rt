@@ -5,7 +5,11 @@ use crate::names;
 use events::Event;
 use events::EventParts;
 use events::FoundEvent;
+use layout::EVENT;
 use words::Parsed;
+
+// The hex digits of an event.
+const DIGITS: usize = 2 * EVENT;
 
 pub(crate) enum Expected {
     Name,
@@ -26,7 +30,7 @@ pub(crate) enum Kind {
 // The bytes are an event's only where the kind says so.
 pub(crate) struct Line {
     pub(crate) kind: Kind,
-    pub(crate) bytes: [u8; 12],
+    pub(crate) bytes: [u8; EVENT],
 }
 
 // The line that stands at the start of the space.
@@ -50,7 +54,7 @@ fn read_text(text: &[u8]) -> Line {
     if from == to {
         return Line {
             kind: Kind::Nothing,
-            bytes: [0; 12],
+            bytes: [0; EVENT],
         };
     }
     let code = names::code(&text[from..to]);
@@ -126,7 +130,7 @@ fn made(code: u16, a: u32, b: u32) -> Line {
 fn wrong(expected: Expected) -> Line {
     Line {
         kind: Kind::Wrong(expected),
-        bytes: [0; 12],
+        bytes: [0; EVENT],
     }
 }
 
@@ -144,7 +148,7 @@ fn expected_after(code: u16) -> Expected {
     }
 }
 
-// The 12 bytes as they are.
+// The bytes as they are.
 fn raw(text: &[u8], from: usize) -> Line
     requires { ⌜ from ≤ length (now text) ⌝ }
 {
@@ -157,12 +161,12 @@ fn raw(text: &[u8], from: usize) -> Line
 }
 
 fn pairs(digits: &[u8]) -> Line {
-    if digits.len() != 24 {
+    if digits.len() != DIGITS {
         return wrong(Expected::Raw);
     }
-    let mut bytes = [0u8; 12];
+    let mut bytes = [0u8; EVENT];
     let mut i: usize = 0;
-    while i < 12 {
+    while i < EVENT {
         let high = words::digit(digits[2 * i], true);
         let low = words::digit(digits[2 * i + 1], true);
         if high == words::NO_DIGIT {

@@ -1,4 +1,4 @@
-// A text of events, one to a line, made into their 12 bytes (Events). A line that cannot be read is told on standard error.
+// A text of events, one to a line, made into their bytes (Events). A line that cannot be read is told on standard error.
 mod line;
 mod names;
 

@@ -1,4 +1,4 @@
-// Strings of 512 bytes to a fresh ground reader: a line a string with what it answers and holds (The ground reader).
+// Strings as long as a block to a fresh ground reader: a line a string with what it answers and holds (The ground reader).
 use kinds::Mode;
 use layout::BLOCK;
 use libc::STDERR_FILENO;
@@ -10,7 +10,7 @@ use words::Parsed;
 use words::ROOM;
 
 // Many strings at a time.
-const PIECE: usize = 65536;
+const PIECE: usize = 128 * BLOCK;
 
 // The reader, and how much of the output buffer is taken.
 struct Heard {

@@ -5,9 +5,10 @@ use Prim.Native.Nat.{ℕ, _+_}
 use mathlib.Core.Bool.{true}
 use mathlib.Core.List.{List, [], _∷_}
 use mathlib.Core.Path.{_≡_}
+use Rattle.kinds.specs.Kinds.{LAST-NUMBER}
 use Rattle.state.specs.declared.State.{State}
 use Rattle.layout.specs.Block.{intact, headOf}
-use Rattle.reader.specs.Content.{LAST, contentOf}
+use Rattle.reader.specs.Content.{contentOf}
 use Rattle.reader.specs.declared.content.Content.{Content}
 use Rattle.fidelity.specs.Pass.{At, lastIn}
 
@@ -16,7 +17,7 @@ pub record Link (number n : ℕ) (s : State) (b : List ℕ) (t : State) : Type 0
   pub whole : intact b ≡ true
   pub log : headOf b .number ≡ number
   pub place : headOf b .block ≡ n
-  pub earlier : headOf b .block ≡ LAST → ⊥
+  pub earlier : headOf b .block ≡ LAST-NUMBER → ⊥
   pub content : contentOf s b ≡ Content.Right t
   pub last : lastIn b ≡ t .count
 

@@ -9,9 +9,9 @@ use mathlib.Core.Path.{_≡_, refl, ap, _∙_}
 use native.Mathlib.Nat.{add-zero}
 use native.Mathlib.Omega.{arith}
 use lib.ListN.{length}
+use Rattle.kinds.specs.Kinds.{LAST-NUMBER}
 use Rattle.state.specs.declared.State.{State}
 use Rattle.layout.specs.Block.{intact, headOf}
-use Rattle.reader.specs.Content.{LAST}
 use Rattle.fidelity.specs.Pass.{At, lastAfter}
 use Rattle.fidelity.specs.Chain.{Link, Chain}
 
@@ -86,7 +86,7 @@ chain-more number states n s (c ∷ bs) t u b chain link known = (
 pub record Member (number from to : ℕ) (b : List ℕ) : Type 0 where
   pub whole : intact b ≡ true
   pub log : headOf b .number ≡ number
-  pub earlier : headOf b .block ≡ LAST → ⊥
+  pub earlier : headOf b .block ≡ LAST-NUMBER → ⊥
   pub low : from ≤ headOf b .block
   pub high : headOf b .block < to
 

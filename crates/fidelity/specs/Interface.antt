@@ -11,7 +11,7 @@
 -- `checkedBytes`, `zerosBetween`.
 -- Of the reader: its table row by row (read-damaged, read-other-log, read-already, read-gap, read-in-turn), fresh-sound, read-sound,
 -- content-read. Opened: `taken`, `closed`, `reads`.
--- Of the manager: no law. Opened: `stepOf`, `flushOf`, `bothSound`, `logSound`.
+-- Of the manager: what its own test of soundness tells (state-sound, log-clauses, used-before). Opened: `stepOf`, `flushOf`.
 -- Assumes nothing.
 use Prim.Native.Nat.{ℕ, _+_, _*_, _^_, _<_, _≤_}
 use mathlib.Core.Bool.{true}
@@ -19,17 +19,19 @@ use mathlib.Core.List.{List, [], _∷_, _++_}
 use mathlib.Core.Path.{_≡_, ap, sym, _∙_}
 use native.Mathlib.Omega.{arith}
 use lib.ListN.{length, take}
+use Rattle.kinds.specs.Kinds.{LAST-NUMBER}
 use Rattle.kinds.specs.Choice.{every}
 use Rattle.state.specs.State.{sound}
 use Rattle.events.specs.Event.{partsOfEvent}
-use Rattle.records.specs.Record.{notStatus, recordInRange, vFits}
-use Rattle.layout.specs.Record.{recordsBytes}
+use Rattle.records.specs.Record.{MOST-RECORDS, notStatus, recordInRange, vFits}
+use Rattle.layout.specs.Record.{RECORD, recordsBytes}
 use Rattle.state.specs.Effect.{effects}
 use Rattle.state.specs.EffectLaws.{one-more-below}
 use Rattle.state.specs.declared.State.{State}
 use Rattle.kinds.specs.declared.status.Status.{Status}
 use Rattle.events.specs.declared.Event.{Event}
 use Rattle.records.specs.declared.Record.{Record}
+use Rattle.draft.specs.Draft.{ROOM}
 use Rattle.draft.specs.declared.Draft.{Draft}
 use Rattle.rules.specs.Rules.{verdictOf}
 use Rattle.rules.specs.Script.{script, next}
@@ -46,17 +48,17 @@ pub record Ruled (s : State) (d : Draft) : Type 0 where
   pub actions : List Record
   pub status : Status
   pub quiet : every notStatus actions ≡ true
-  pub few : length actions ≤ 9
+  pub few : length actions < MOST-RECORDS
   pub range : every recordInRange (whole s actions status) ≡ true
   pub fit : every vFits (whole s actions status) ≡ true
   pub sound : sound (effects s (whole s actions status)) ≡ true
   pub number : effects s (whole s actions status) .count ≡ s .count + 1
   pub state : d .state ≡ effects s (whole s actions status)
   pub count : d .count ≡ length (whole s actions status)
-  pub bytes : take (8 * d .count) (d .bytes) ≡ recordsBytes (whole s actions status)
-  pub eighty : length (d .bytes) ≡ 80
+  pub bytes : take (RECORD * d .count) (d .bytes) ≡ recordsBytes (whole s actions status)
+  pub long : length (d .bytes) ≡ ROOM
 
-module _ (s : State) (e : Event) (ok : sound s ≡ true) (below : s .count < 4_294_967_295) where
+module _ (s : State) (e : Event) (ok : sound s ≡ true) (below : s .count < LAST-NUMBER) where
   script-whole : script s e ≡ whole s (verdictOf s e .records) (verdictOf s e .status)
   script-whole =
       script-form s e
@@ -80,5 +82,5 @@ module _ (s : State) (e : Event) (ok : sound s ≡ true) (below : s .count < 4_2
         state = ruling-state s e ok ∙ next-whole;
         count = ruling-count s e ok ∙ ap length script-whole;
         bytes = ruling-bytes s e ok ∙ ap recordsBytes script-whole;
-        eighty = ruling-held s e .1;
+        long = ruling-held s e .1;
       }

@@ -13,6 +13,8 @@ use Rattle.layout.specs.Record.{recordsBytes}
 use Rattle.state.specs.declared.State.{State}
 use Rattle.kinds.specs.declared.status.Status.{Status}
 use Rattle.records.specs.declared.Record.{Record}
+use Rattle.layout.specs.Block.{AREA}
+use Rattle.layout.specs.Record.{RECORD}
 use Rattle.layout.specs.declared.block.Head.{Head}
 use Rattle.reader.specs.declared.content.Content.{Content}
 use Rattle.fidelity.specs.Replay.{replay}
@@ -23,8 +25,8 @@ Ends n rs = (rs ≡ []) ⊎ ((front : List Record) × (x : Status) × (rs ≡ fr
 
 pub record Open (s : State) (h : Head) (area : List ℕ) (t : State) : Type 0 where
   pub records : List Record
-  pub full : length area ≡ 496
-  pub stand : take (8 * length records) area ≡ recordsBytes records
+  pub full : length area ≡ AREA
+  pub stand : take (RECORD * length records) area ≡ recordsBytes records
   pub used : h .used ≡ length records
   pub range : every recordInRange records ≡ true
   pub fit : every vFits records ≡ true

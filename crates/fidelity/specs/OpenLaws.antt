@@ -11,6 +11,7 @@ use borrow.Author.Tests.{le-leb}
 use lib.ListN.{length, take, drop, length-append, length-replicate, take-append-drop}
 use lib.Seq.{take-at, take-all, drop-append-add, length-paste, take-paste, paste}
 use Rattle.frame_check.specs.Check.{checkOf}
+use Rattle.kinds.specs.Kinds.{LAST-NUMBER}
 use Rattle.kinds.specs.ChoiceLaws.{every-both}
 use Rattle.records.specs.Record.{recordInRange, vFits, partsOfRecord}
 use Rattle.state.specs.declared.State.{State}
@@ -18,9 +19,9 @@ use Rattle.kinds.specs.declared.status.Status.{Status}
 use Rattle.records.specs.declared.Record.{Record}
 use Rattle.records.specs.declared.Reading.{Reading}
 use Rattle.layout.specs.Bytes.{two}
-use Rattle.layout.specs.Block.{headOf, usedInRange, headBytes, checkedBytes, blockBytes}
+use Rattle.layout.specs.Block.{RECORDS-AT, USED-MOST, AREA, CHECK-AT, headOf, usedInRange, headBytes, checkedBytes, blockBytes}
 use Rattle.layout.specs.BlockLaws.{head-length, checked-length, block-intact, block-head}
-use Rattle.layout.specs.Record.{readRecord, recordsBytes}
+use Rattle.layout.specs.Record.{RECORD, readRecord, recordsBytes}
 use Rattle.layout.specs.RecordLaws.{records-bytes-append}
 use Rattle.layout.specs.Zeros.{zerosBetween}
 use Rattle.layout.specs.declared.block.Head.{Head}
@@ -40,7 +41,7 @@ pub open-blank : (s : State) (h : Head) → h .used ≡ 0 → h .before ≡ s .c
 open-blank s h used before =
     record {
       records = [];
-      full = length-replicate {A = ℕ} 496 0;
+      full = length-replicate {A = ℕ} AREA 0;
       stand = refl;
       used = used;
       range = refl;
@@ -58,7 +59,7 @@ stand-more : (area bytes xs ys : List ℕ) (m n : ℕ) → m ≤ length area →
 stand-more area bytes xs ys m n room long first second = rw (take-paste area m bytes n room long, first, second)
 
 module _ (s t : State) (h h′ : Head) (area : List ℕ) (d : Draft) (o : Open s h area t) (r : Ruled t d)
-    (room : h .used + d .count ≤ 62) (used : h′ .used ≡ h .used + d .count) (before : h′ .before ≡ h .before) where
+    (room : h .used + d .count ≤ USED-MOST) (used : h′ .used ≡ h .used + d .count) (before : h′ .before ≡ h .before) where
   abbrev more : List Record
   more = whole t (r .actions) (r .status)
 
@@ -68,19 +69,19 @@ module _ (s t : State) (h h′ : Head) (area : List ℕ) (d : Draft) (o : Open s
   all-length : length (o .records ++ more) ≡ h .used + d .count
   all-length = length-append (o .records) more ∙ omega (arith, o .used, r .count)
 
-  within : (8 * h .used + 8 * d .count ≤ length area) × (8 * d .count ≤ length (d .bytes))
-  within = omega (arith, o .full, r .eighty, r .count, more-length, r .few)
+  within : (RECORD * h .used + RECORD * d .count ≤ length area) × (RECORD * d .count ≤ length (d .bytes))
+  within = omega (arith, o .full, r .long, r .count, more-length, r .few)
 
-  all-bytes : 8 * length (o .records ++ more) ≡ 8 * h .used + 8 * d .count
+  all-bytes : RECORD * length (o .records ++ more) ≡ RECORD * h .used + RECORD * d .count
   all-bytes = omega (arith, all-length)
 
-  stand-first : take (8 * h .used) area ≡ recordsBytes (o .records)
-  stand-first = ap (λ (n : ℕ). take (8 * n) area) (o .used) ∙ o .stand
+  stand-first : take (RECORD * h .used) area ≡ recordsBytes (o .records)
+  stand-first = ap (λ (n : ℕ). take (RECORD * n) area) (o .used) ∙ o .stand
 
-  stand-all : take (8 * length (o .records ++ more)) (areaWith area (h .used) d) ≡ recordsBytes (o .records ++ more)
+  stand-all : take (RECORD * length (o .records ++ more)) (areaWith area (h .used) d) ≡ recordsBytes (o .records ++ more)
   stand-all =
       ap (λ (n : ℕ). take n (areaWith area (h .used) d)) all-bytes
-      ∙ stand-more area (d .bytes) (recordsBytes (o .records)) (recordsBytes more) (8 * h .used) (8 * d .count)
+      ∙ stand-more area (d .bytes) (recordsBytes (o .records)) (recordsBytes more) (RECORD * h .used) (RECORD * d .count)
       (omega (arith, within .0)) (within .1) stand-first (r .bytes)
       ∙ sym (records-bytes-append (o .records) more)
 
@@ -95,7 +96,7 @@ module _ (s t : State) (h h′ : Head) (area : List ℕ) (d : Draft) (o : Open s
   open-more =
       record {
         records = o .records ++ more;
-        full = length-paste area (8 * h .used) (d .bytes) (8 * d .count) (within .0) (within .1) ∙ o .full;
+        full = length-paste area (RECORD * h .used) (d .bytes) (RECORD * d .count) (within .0) (within .1) ∙ o .full;
         stand = stand-all;
         used = used ∙ sym all-length;
         range = every-both recordInRange (o .records) more (o .range) (r .range);
@@ -129,29 +130,29 @@ status-number x n = refl
 
 module _ (s t : State) (h : Head) (area : List ℕ) (o : Open s h area t) where
   records-in : blockBytes h area
-      ≡ (headBytes h ++ recordsBytes (o .records)) ++ (drop (8 * length (o .records)) area ++ two (checkOf (checkedBytes h area)))
+      ≡ (headBytes h ++ recordsBytes (o .records)) ++ (drop (RECORD * length (o .records)) area ++ two (checkOf (checkedBytes h area)))
   unfolding blockBytes checkedBytes
   records-in =
       ap (λ (x : List ℕ). (headBytes h ++ x) ++ two (checkOf (headBytes h ++ area)))
-      (sym (take-append-drop (8 * length (o .records)) area) ∙ ap (λ (x : List ℕ). x ++ drop (8 * length (o .records)) area) (o .stand))
-      ∙ regrouped (headBytes h) (recordsBytes (o .records)) (drop (8 * length (o .records)) area) (two (checkOf (headBytes h ++ area)))
+      (sym (take-append-drop (RECORD * length (o .records)) area) ∙ ap (λ (x : List ℕ). x ++ drop (RECORD * length (o .records)) area) (o .stand))
+      ∙ regrouped (headBytes h) (recordsBytes (o .records)) (drop (RECORD * length (o .records)) area) (two (checkOf (headBytes h ++ area)))
 
   stand-closed : StandIn (blockBytes h area) 0 (o .records)
   stand-closed =
-      stand-in (blockBytes h area) (headBytes h) (drop (8 * length (o .records)) area ++ two (checkOf (checkedBytes h area)))
+      stand-in (blockBytes h area) (headBytes h) (drop (RECORD * length (o .records)) area ++ two (checkOf (checkedBytes h area)))
       (o .records) 0 records-in (head-length h) (o .range) (o .fit)
 
-  zeros-closed : zerosBetween area (8 * h .used) 496 ≡ true → zerosBetween (blockBytes h area) (place (h .used)) 510 ≡ true
+  zeros-closed : zerosBetween area (RECORD * h .used) AREA ≡ true → zerosBetween (blockBytes h area) (place (h .used)) CHECK-AT ≡ true
   unfolding zerosBetween blockBytes checkedBytes
   zeros-closed zero =
       rw (
-        take-at (headBytes h ++ area) (two (checkOf (headBytes h ++ area))) 510 (unfold checkedBytes in checked-length h area (o .full)),
-        drop-behind (headBytes h) area 14 (8 * h .used) (head-length h),
+        take-at (headBytes h ++ area) (two (checkOf (headBytes h ++ area))) CHECK-AT (unfold checkedBytes in checked-length h area (o .full)),
+        drop-behind (headBytes h) area RECORDS-AT (RECORD * h .used) (head-length h),
       )
-      (rw (take-all 496 area (omega (arith, o .full))) at zero)
+      (rw (take-all AREA area (omega (arith, o .full))) at zero)
 
   last-read : (h .used ≡ 0 → ⊥) → Ends (t .count) (o .records)
-      → eventNumber (readRecord (blockBytes h area) (14 + 8 * (h .used - 1))) ≡ t .count
+      → eventNumber (readRecord (blockBytes h area) (RECORDS-AT + RECORD * (h .used - 1))) ≡ t .count
   last-read some (inl none) = absurd (some (o .used ∙ ap length none))
   last-read some (inr e) =
       let front : List Record = e .0 in
@@ -160,13 +161,13 @@ module _ (s t : State) (h : Head) (area : List ℕ) (o : Open s h area t) where
       let here : h .used - 1 ≡ 0 + length front = omega (arith, o .used) in
       rw (here, stand-last (blockBytes h area) front (Record.Status (e .1) (t .count)) 0 stand) (status-number (e .1) (t .count))
 
-  module _ (small : h .number < 2 ^ 32) (some : h .used ≡ 0 → ⊥) (room : h .used ≤ 62) (zero : zerosBetween area (8 * h .used) 496 ≡ true)
-      (blocks : h .block ≤ h .before) (counts : h .before < t .count) (most : t .count ≤ 4_294_967_295) where
+  module _ (small : h .number < 2 ^ 32) (some : h .used ≡ 0 → ⊥) (room : h .used ≤ USED-MOST) (zero : zerosBetween area (RECORD * h .used) AREA ≡ true)
+      (blocks : h .block ≤ h .before) (counts : h .before < t .count) (most : t .count ≤ LAST-NUMBER) where
     head-closed : headOf (blockBytes h area) ≡ h
     head-closed = block-head h area (o .full) small (omega arith) (omega arith) (omega arith)
 
     used-closed : usedInRange (h .used) ≡ true
-    used-closed = rw (le-leb 1 (h .used) (omega arith), le-leb (h .used) 62 room)
+    used-closed = rw (le-leb 1 (h .used) (omega arith), le-leb (h .used) USED-MOST room)
 
     content-closed : contentOf s (blockBytes h area) ≡ Content.Right t
     content-closed =
@@ -185,5 +186,5 @@ module _ (s t : State) (h : Head) (area : List ℕ) (o : Open s h area t) where
           earlier = rw head-closed (λ e. omega arith);
           content = content-closed;
           last =
-              ap (λ (x : Head). eventNumber (readRecord (blockBytes h area) (14 + 8 * (x .used - 1)))) head-closed ∙ last-read some (o .ends);
+              ap (λ (x : Head). eventNumber (readRecord (blockBytes h area) (RECORDS-AT + RECORD * (x .used - 1)))) head-closed ∙ last-read some (o .ends);
         }

@@ -17,8 +17,8 @@ use Rattle.state.specs.declared.State.{State}
 use Rattle.kinds.specs.declared.answer.Answer.{Answer}
 use Rattle.records.specs.declared.Reading.{Reading}
 use Rattle.layout.specs.Bytes.{AreBytes, u16At}
-use Rattle.layout.specs.Block.{headOf, RECORDS-AT}
-use Rattle.layout.specs.Record.{readRecord}
+use Rattle.layout.specs.Block.{RECORDS-AT, CHECK-AT, BLOCK, headOf}
+use Rattle.layout.specs.Record.{RECORD, readRecord}
 use Rattle.manager.specs.Manager.{Outcome, freshManager, stepped, flushedOf, steppedOf}
 use Rattle.manager.specs.declared.Manager.{Manager}
 use Rattle.reader.specs.Reader.{freshReader, readOf, replyNumber}
@@ -100,7 +100,7 @@ eventNumber Reading.WrongD = 0
 eventNumber Reading.WrongV = 0
 
 unfoldable pub lastIn : List ℕ → ℕ
-lastIn b = eventNumber (readRecord b (RECORDS-AT + 8 * (headOf b .used - 1)))
+lastIn b = eventNumber (readRecord b (RECORDS-AT + RECORD * (headOf b .used - 1)))
 
 -- the number of the last event in some blocks, behind event n; 0 stands for the fresh state
 abbrev pub lastAfter : ℕ → List (List ℕ) → ℕ
@@ -114,8 +114,8 @@ lastEvent bs = lastAfter 0 bs
 
 -- a string that is not for the reader of this log, or that no one can read
 pub data Stray (number : ℕ) (b : List ℕ) : Type 0 where
-  another-length : (length b ≡ 512 → ⊥) → Stray number b
-  wrong-check : (checkOf (take 510 b) ≡ u16At b 510 → ⊥) → Stray number b
+  another-length : (length b ≡ BLOCK → ⊥) → Stray number b
+  wrong-check : (checkOf (take CHECK-AT b) ≡ u16At b CHECK-AT → ⊥) → Stray number b
   another-log : (headOf b .number ≡ number → ⊥) → Stray number b
 
 -- each string that is delivered is one of these blocks or a stray; blocks may be lost, repeated and out of order

@@ -1,7 +1,7 @@
 -- Replaying records, laws: records that stand in a block are read as they are replayed; what is replayed after what was replayed to
 -- its end; and the records of an event are replayed to the state that they lead to.
 -- Assumes nothing.
-use Prim.Native.Nat.{ℕ, _+_, _^_, _≤_}
+use Prim.Native.Nat.{ℕ, _+_, _^_, _<_}
 use mathlib.Core.Bool.{true, false}
 use mathlib.Core.List.{List, [], _∷_, _++_, append-assoc}
 use mathlib.Core.Path.{_≡_, ap, sym, _∙_}
@@ -14,7 +14,7 @@ use Rattle.kinds.specs.ChoiceLaws.{and-left, and-right}
 use Rattle.state.specs.State.{sound}
 use Rattle.state.specs.Effect.{effect, effects}
 use Rattle.state.specs.EffectLaws.{effect-count}
-use Rattle.records.specs.Record.{partsOfRecord, recordInRange, notStatus, vFits, STATUS}
+use Rattle.records.specs.Record.{MOST-RECORDS, partsOfRecord, recordInRange, isStatus, notStatus, vFits}
 use Rattle.state.specs.declared.State.{State}
 use Rattle.kinds.specs.declared.status.Status.{Status}
 use Rattle.records.specs.declared.Record.{Record}
@@ -68,24 +68,23 @@ replay-append (x ∷ xs) ys k s t right =
 
 -- The records of an event ------------------------------------------------------------------------------------------------------
 
-taken-on : (k : ℕ) (s : State) (r : Record) → k ≤ 9 → eqb (partsOfRecord r .code) STATUS ≡ false
+taken-on : (k : ℕ) (s : State) (r : Record) → k < MOST-RECORDS → isStatus r ≡ false
     → taken k s (Reading.Right r) ≡ Went.On (effect s r)
 unfolding taken
-taken-on k s r few other = rw (lt-leb 10 k (omega arith), other)
+taken-on k s r few other = rw (lt-leb MOST-RECORDS k few, other)
 
-taken-status : (k : ℕ) (s : State) (x : Status) (n : ℕ) → k ≤ 9 → n ≡ s .count + 1 → sound (effect s (Record.Status x n)) ≡ true
+taken-status : (k : ℕ) (s : State) (x : Status) (n : ℕ) → k < MOST-RECORDS → n ≡ s .count + 1 → sound (effect s (Record.Status x n)) ≡ true
     → taken k s (Reading.Right (Record.Status x n)) ≡ Went.Closed (effect s (Record.Status x n))
 unfolding taken closed partsOfRecord
-taken-status k s x n few next ok = rw (lt-leb 10 k (omega arith), eq-eqb n (s .count + 1) next, ok)
+taken-status k s x n few next ok = rw (lt-leb MOST-RECORDS k few, eq-eqb n (s .count + 1) next, ok)
 
-pub replay-event : (rs : List Record) (k : ℕ) (s : State) (x : Status) (n : ℕ) → every notStatus rs ≡ true → k + length rs ≤ 9
+pub replay-event : (rs : List Record) (k : ℕ) (s : State) (x : Status) (n : ℕ) → every notStatus rs ≡ true → k + length rs < MOST-RECORDS
     → n ≡ s .count + 1 → sound (effects s (rs ++ Record.Status x n ∷ [])) ≡ true
     → replay k s (rs ++ Record.Status x n ∷ []) ≡ Content.Right (effects s (rs ++ Record.Status x n ∷ []))
 replay-event [] k s x n quiet few next ok =
     ap (followed 0 k (λ k′ s′. replay k′ s′ [])) (taken-status k s x n (omega arith) next ok)
 replay-event (r ∷ rs) k s x n quiet few next ok =
-    let other : eqb (partsOfRecord r .code) STATUS ≡ false
-    = not-true (eqb (partsOfRecord r .code) STATUS) (and-left (notStatus r) (every notStatus rs) quiet) in
+    let other : isStatus r ≡ false = not-true (isStatus r) (and-left (notStatus r) (every notStatus rs) quiet) in
     ap (followed 0 k (λ k′ s′. replay k′ s′ (rs ++ Record.Status x n ∷ []))) (taken-on k s r (omega arith) other)
     ∙ replay-event rs (k + 1) (effect s r) x n (and-right (notStatus r) (every notStatus rs) quiet) (omega arith)
     (next ∙ sym (ap (λ (c : ℕ). c + 1) (effect-count s r other))) ok

@@ -11,24 +11,25 @@ use native.Mathlib.Omega.{arith}
 use borrow.Author.Tests.{leb-true, leb-false, eqb-false, ne-eqb, not-false}
 use lib.ListN.{length, length-append}
 use lib.Dec.{eqb, leb}
+use Rattle.kinds.specs.Kinds.{LAST-NUMBER}
 use Rattle.kinds.specs.Choice.{if_then_else_}
-use Rattle.kinds.specs.ChoiceLaws.{and-left, and-right}
-use Rattle.state.specs.State.{sound, fresh, rebooted}
+use Rattle.state.specs.State.{fresh, rebooted}
 use Rattle.events.specs.Event.{partsOfEvent}
+use Rattle.records.specs.Record.{MOST-RECORDS}
 use Rattle.state.specs.declared.State.{State}
 use Rattle.kinds.specs.declared.answer.Answer.{Answer}
 use Rattle.events.specs.declared.Event.{Event}
 use Rattle.events.specs.declared.FoundEvent.{FoundEvent}
 use Rattle.layout.specs.Bytes.{AreBytes}
-use Rattle.layout.specs.Block.{blockBytes, lentWhole}
+use Rattle.layout.specs.Block.{USED-MOST, blockBytes, lentWhole}
 use Rattle.layout.specs.Event.{readEvent}
 use Rattle.layout.specs.EventLaws.{event-fits}
-use Rattle.layout.specs.Zeros.{zerosBetween}
 use Rattle.layout.specs.declared.block.Head.{Head}
 use Rattle.draft.specs.declared.Draft.{Draft}
 use Rattle.rules.specs.Ruling.{rulingOf}
-use Rattle.manager.specs.Log.{same, logSound, blankArea, fits, areaWith, headWith, headNext}
-use Rattle.manager.specs.Manager.{LAST, freshHead, bothSound, Outcome, kept, added, turned, logged, heardEvent, stepOf, flushed, flushOf, stepped, flushedOf}
+use Rattle.manager.specs.Log.{blankArea, fits, areaWith, headWith, headNext}
+use Rattle.manager.specs.Manager.{freshHead, bothSound, Outcome, kept, added, turned, logged, heardEvent, stepOf, flushed, flushOf, stepped, flushedOf}
+use Rattle.manager.specs.LogLaws.{Clauses, state-sound, log-clauses, used-before}
 use Rattle.reader.specs.ContentLaws.{picked}
 use Rattle.fidelity.specs.Pass.{Operation, stepping, flushing, EventBytes, Run, freshRun, afterStep, afterFlush, afterAll, runOf, At}
 use Rattle.fidelity.specs.Interface.{whole, Ruled, ruled}
@@ -37,48 +38,6 @@ use Rattle.fidelity.specs.ChainLaws.{at-longer, at-end, at-cases, chain-
 use Rattle.fidelity.specs.Open.{Open}
 use Rattle.fidelity.specs.OpenLaws.{open-blank, open-more, closed-link}
 
--- What the manager's own test tells --------------------------------------------------------------------------------------------
-
-record Tested (s : State) (h : Head) (area : List ℕ) : Type 0 where
-  own : sound s ≡ true
-  room : h .used ≤ 62
-  zero : zerosBetween area (8 * h .used) 496 ≡ true
-  blocks : h .block ≤ h .before
-  counts : h .before ≤ s .count
-  agree : same (eqb (h .used) 0) (eqb (h .before) (s .count)) ≡ true
-
-tested : (s : State) (h : Head) (area : List ℕ) → bothSound s h area ≡ true → Tested s h area
-unfolding bothSound logSound
-tested s h area both =
-    let used : Bool = leb (h .used) 62 in
-    let zero : Bool = zerosBetween area (8 * h .used) 496 in
-    let blocks : Bool = leb (h .block) (h .before) in
-    let counts : Bool = leb (h .before) (s .count) in
-    let agree : Bool = same (eqb (h .used) 0) (eqb (h .before) (s .count)) in
-    let log = and-right (sound s) (used && zero && blocks && counts && agree) both in
-    let four = and-left (used && zero && blocks && counts) agree log in
-    let three = and-left (used && zero && blocks) counts four in
-    let two = and-left (used && zero) blocks three in
-    record {
-      own = and-left (sound s) (used && zero && blocks && counts && agree) both;
-      room = leb-true (h .used) 62 (and-left used zero two);
-      zero = and-right used zero two;
-      blocks = leb-true (h .block) (h .before) (and-right (used && zero) blocks three);
-      counts = leb-true (h .before) (s .count) (and-right (used && zero && blocks) counts four);
-      agree = and-right (used && zero && blocks && counts) agree log;
-    }
-
-same-false : (b : Bool) → same false b ≡ true → b ≡ false
-same-false true e = sym e
-same-false false e = refl
-
--- a log that holds records was begun before the count that it has now
-tested-before : (s : State) (h : Head) (area : List ℕ) → Tested s h area → (h .used ≡ 0 → ⊥) → h .before < s .count
-tested-before s h area k some =
-    let apart : h .before ≡ s .count → ⊥ = eqb-false (h .before) (s .count) (same-false _ (rw (ne-eqb (h .used) 0 some) at (k .agree))) in
-    let low : h .before ≤ s .count = k .counts in
-    omega arith
-
 -- What is kept -----------------------------------------------------------------------------------------------------------------
 
 pub record Kept (number : ℕ) (r : Run) : Type 0 where
@@ -86,7 +45,7 @@ pub record Kept (number : ℕ) (r : Run) : Type 0 where
   pub opened : Open base (r .manager .head) (r .manager .records) (r .manager .state)
   pub log : r .manager .head .number ≡ number
   pub blocks : r .manager .head .block ≡ length (r .blocks)
-  pub most : r .manager .state .count ≤ 4_294_967_295
+  pub most : r .manager .state .count ≤ LAST-NUMBER
   pub long : length (r .states) ≡ r .manager .state .count + 1
   pub numbered : (n : ℕ) (s : State) → At (r .states) n s → s .count ≡ n
   pub first : At (r .states) (fresh .count) fresh
@@ -134,13 +93,13 @@ module _ (number : ℕ) (small : number < 2 ^ 32) (r : Run) (k : Kept number r) 
         blocks = r .blocks ++ blockBytes (head r) (area r) ∷ [];
       }
 
-  closed-block : Tested (now r) (head r) (area r) → (head r .used ≡ 0 → ⊥) → Link number (0 + length (r .blocks)) (k .base) (blockBytes (head r) (area r)) (now r)
+  closed-block : Clauses (now r) (head r) (area r) → (head r .used ≡ 0 → ⊥) → Link number (0 + length (r .blocks)) (k .base) (blockBytes (head r) (area r)) (now r)
   closed-block t some =
       link-at number (0 + length (r .blocks)) (k .log) (k .blocks ∙ sym (zero-add (length (r .blocks))))
       (closed-link (k .base) (now r) (head r) (area r) (k .opened) (rw (k .log) small) some (t .room) (t .zero) (t .blocks)
-      (tested-before (now r) (head r) (area r) t some) (k .most))
+      (used-before (now r) (head r) (area r) t some) (k .most))
 
-  kept-closed : Tested (now r) (head r) (area r) → (head r .used ≡ 0 → ⊥) → Kept number closedRun
+  kept-closed : Clauses (now r) (head r) (area r) → (head r .used ≡ 0 → ⊥) → Kept number closedRun
   kept-closed t some =
       record {
         base = now r;
@@ -157,7 +116,7 @@ module _ (number : ℕ) (small : number < 2 ^ 32) (r : Run) (k : Kept number r) 
       }
 
   -- an event's records go into the open block
-  module _ (d : Draft) (h : Head) (e : Ruled (now r) d) (below : now r .count < 4_294_967_295) (room : head r .used + d .count ≤ 62)
+  module _ (d : Draft) (h : Head) (e : Ruled (now r) d) (below : now r .count < LAST-NUMBER) (room : head r .used + d .count ≤ USED-MOST)
       (log : h .number ≡ head r .number) (block : h .block ≡ head r .block) (used : h .used ≡ head r .used + d .count)
       (before : h .before ≡ head r .before) where
     abbrev addedRun : Run
@@ -198,7 +157,7 @@ module _ (number : ℕ) (small : number < 2 ^ 32) (r : Run) (k : Kept number r) 
       picked P (not (lentWhole lent)) (kept (now r) (head r) (area r) lent Answer.BadBuf) unsound (λ _. k)
       (λ _. picked P (not (bothSound (now r) (head r) (area r))) (kept (now r) (head r) (area r) lent Answer.BadState) empty (λ _. k)
       (λ own. picked P (eqb (head r .used) 0) (kept (now r) (head r) (area r) lent Answer.Empty) (flushed (now r) (head r) (area r) lent) (λ _. k)
-      (λ some. kept-closed (tested (now r) (head r) (area r) (not-false (bothSound (now r) (head r) (area r)) own)) (eqb-false (head r .used) 0 some))))
+      (λ some. kept-closed (log-clauses (now r) (head r) (area r) (not-false (bothSound (now r) (head r) (area r)) own)) (eqb-false (head r .used) 0 some))))
     where
       P : Outcome → Type 0
       P o = Kept number (afterFlush r o)
@@ -212,18 +171,18 @@ module _ (number : ℕ) (small : number < 2 ^ 32) (r : Run) (k : Kept number r) 
 module _ (number : ℕ) (small : number < 2 ^ 32) (r : Run) (k : Kept number r) where
   -- An event -------------------------------------------------------------------------------------------------------------------
 
-  kept-logged : (lent : List ℕ) (e : Event) → Tested (now r) (head r) (area r) → Ruled (now r) (rulingOf (now r) e .draft)
-      → now r .count < 4_294_967_295 → Kept number (afterStep r (logged (now r) (head r) (area r) lent (rulingOf (now r) e)))
+  kept-logged : (lent : List ℕ) (e : Event) → Clauses (now r) (head r) (area r) → Ruled (now r) (rulingOf (now r) e .draft)
+      → now r .count < LAST-NUMBER → Kept number (afterStep r (logged (now r) (head r) (area r) lent (rulingOf (now r) e)))
   kept-logged lent e t ruling below =
       picked (λ (o : Outcome). Kept number (afterStep r o)) (fits (head r) draft) (added (now r) (head r) (area r) lent (rulingOf (now r) e))
       (turned (now r) (head r) (area r) lent (rulingOf (now r) e))
-      (λ room. kept-added number small r k draft (headWith (head r) draft) ruling below (leb-true (head r .used + draft .count) 62 room) refl refl refl refl)
-      (λ full. kept-turned (leb-false (head r .used + draft .count) 62 full))
+      (λ room. kept-added number small r k draft (headWith (head r) draft) ruling below (leb-true (head r .used + draft .count) USED-MOST room) refl refl refl refl)
+      (λ full. kept-turned (leb-false (head r .used + draft .count) USED-MOST full))
     where
       draft : Draft
       draft = rulingOf (now r) e .draft
 
-      few : draft .count ≤ 10
+      few : draft .count ≤ MOST-RECORDS
       few =
           omega (
             arith,
@@ -232,7 +191,7 @@ module _ (number : ℕ) (small : number < 2 ^ 32) (r : Run) (k : Kept number r) 
             ruling .few,
           )
 
-      kept-turned : 62 < head r .used + draft .count → Kept number (afterStep r (turned (now r) (head r) (area r) lent (rulingOf (now r) e)))
+      kept-turned : USED-MOST < head r .used + draft .count → Kept number (afterStep r (turned (now r) (head r) (area r) lent (rulingOf (now r) e)))
       kept-turned full =
           let some : head r .used ≡ 0 → ⊥ = λ none. omega (arith, few) in
           kept-added number small (closedRun number small r k) (kept-closed number small r k t some) draft (headNext (head r) (draft .count) (now r .count)) ruling below
@@ -243,9 +202,9 @@ module _ (number : ℕ) (small : number < 2 ^ 32) (r : Run) (k : Kept number r) 
   kept-heard event lent bytes FoundEvent.Unknown read = k
   kept-heard event lent bytes (FoundEvent.Found e) read =
       picked P (not (bothSound (now r) (head r) (area r))) (kept (now r) (head r) (area r) lent Answer.BadState) sounded (λ _. k)
-      (λ own. picked P (eqb (now r .count) LAST) (kept (now r) (head r) (area r) lent Answer.Full) ruling (λ _. k)
-      (λ below. taken (tested (now r) (head r) (area r) (not-false (bothSound (now r) (head r) (area r)) own))
-      (eqb-false (now r .count) LAST below)))
+      (λ own. picked P (eqb (now r .count) LAST-NUMBER) (kept (now r) (head r) (area r) lent Answer.Full) ruling (λ _. k)
+      (λ below. taken (not-false (bothSound (now r) (head r) (area r)) own)
+      (eqb-false (now r .count) LAST-NUMBER below)))
     where
       P : Outcome → Type 0
       P o = Kept number (afterStep r o)
@@ -254,13 +213,14 @@ module _ (number : ℕ) (small : number < 2 ^ 32) (r : Run) (k : Kept number r) 
       ruling = logged (now r) (head r) (area r) lent (rulingOf (now r) e)
 
       sounded : Outcome
-      sounded = if eqb (now r .count) LAST then kept (now r) (head r) (area r) lent Answer.Full else ruling
+      sounded = if eqb (now r .count) LAST-NUMBER then kept (now r) (head r) (area r) lent Answer.Full else ruling
 
-      taken : Tested (now r) (head r) (area r) → (now r .count ≡ 4_294_967_295 → ⊥) → P ruling
-      taken t other =
-          let below : now r .count < 4_294_967_295 = omega (arith, k .most) in
+      taken : bothSound (now r) (head r) (area r) ≡ true → (now r .count ≡ LAST-NUMBER → ⊥) → P ruling
+      taken both other =
+          let below : now r .count < LAST-NUMBER = omega (arith, k .most) in
           let fit : (partsOfEvent e .a < 2 ^ 32) × (partsOfEvent e .b < 2 ^ 32) = event-fits event e bytes read in
-          kept-logged lent e t (ruled (now r) e (t .own) below (fit .0) (fit .1)) below
+          kept-logged lent e (log-clauses (now r) (head r) (area r) both)
+          (ruled (now r) e (state-sound (now r) (head r) (area r) both) below (fit .0) (fit .1)) below
 
   kept-step : (event lent : List ℕ) → AreBytes event → Kept number (afterStep r (stepped (r .manager) event lent))
   unfolding stepOf

@@ -2,7 +2,7 @@
 -- events, and a flush after each, so it writes three blocks. Then these strings come down: block 0; block 2, for block 1 is lost; a
 -- block of log 8; block 1 with a byte changed; block 0 again; and then block 1 and block 2.
 -- Assumes nothing.
-use Prim.Native.Nat.{ℕ}
+use Prim.Native.Nat.{ℕ, _^_}
 use mathlib.Core.Bool.{Bool, true, false}
 use mathlib.Core.List.{List, [], _∷_}
 use mathlib.Core.Path.{_≡_, refl}
@@ -14,7 +14,7 @@ use Rattle.records.specs.Record.{partsOfRecord, recordOf}
 use Rattle.state.specs.State.{rebooted, sound, shapeSound, calibrationSound, physicsSound, tooSound, bootSound}
 use Rattle.kinds.specs.Kinds.{modeNumber}
 use Rattle.layout.specs.Bytes.{u16At, u32At, two, four}
-use Rattle.layout.specs.Block.{headOf, intact, headBytes, checkedBytes, blockBytes}
+use Rattle.layout.specs.Block.{BLOCK, headOf, intact, headBytes, checkedBytes, blockBytes}
 use Rattle.layout.specs.Event.{eventPartsAt, readEvent}
 use Rattle.layout.specs.Record.{recordPartsAt, readRecord, recordPartsBytes, recordBytes}
 use Rattle.layout.specs.Zeros.{allZero, zerosBetween}
@@ -29,12 +29,12 @@ use Rattle.reader.specs.declared.reader.Reader.{Reader}
 use Rattle.reader.specs.declared.reply.Read.{Read}
 use Rattle.fidelity.specs.Pass.{Operation, stepping, flushing, runOf}
 
--- an event's 12 bytes, with a in the last byte of its four, and a lent block
+-- an event's bytes, with a in the last byte of its four, and a lent block
 abbrev event : ℕ → ℕ → List ℕ
 event code a = 0 ∷ code ∷ 0 ∷ 0 ∷ 0 ∷ 0 ∷ 0 ∷ a ∷ 0 ∷ 0 ∷ 0 ∷ 0 ∷ []
 
 abbrev lent : List ℕ
-lent = replicate 512 0
+lent = replicate BLOCK 0
 
 -- STARTED, MAINFEEDON and POWERON of bay 1
 abbrev asked : List Operation
@@ -111,6 +111,6 @@ unfolding computed
 wide-refused = refl
 
 -- a log number of 2 ^ 32: the block says 0, and its reader takes it for another log's
-number-refused : told (readOf (freshReader 4_294_967_296) (getD (runOf 4_294_967_296 (take 2 asked) .blocks) 0 [])) ≡ (4, 0, 0)
+number-refused : told (readOf (freshReader (2 ^ 32)) (getD (runOf (2 ^ 32) (take 2 asked) .blocks) 0 [])) ≡ (4, 0, 0)
 unfolding computed
 number-refused = refl

@@ -14,13 +14,13 @@ use Rattle.events.specs.declared.EventParts.{EventParts}
 use Rattle.events.specs.declared.FoundEvent.{FoundEvent}
 use Rattle.layout.specs.Bytes.{AreBytes, u16At, u32At, two, four}
 use Rattle.layout.specs.BytesLaws.{two-length, four-length, two-joined, four-joined, u32-fits}
-use Rattle.layout.specs.Event.{eventPartsAt, readEvent, eventPartsBytes, eventBytes}
+use Rattle.layout.specs.Event.{EVENT, eventPartsAt, readEvent, eventPartsBytes, eventBytes}
 
-event-parts-length : (p : EventParts) → length (eventPartsBytes p) ≡ 12
+event-parts-length : (p : EventParts) → length (eventPartsBytes p) ≡ EVENT
 unfolding eventPartsBytes
 event-parts-length p = simp (length-append, two-length, four-length)
 
-pub event-bytes-length : (e : Event) → length (eventBytes e) ≡ 12
+pub event-bytes-length : (e : Event) → length (eventBytes e) ≡ EVENT
 unfolding eventBytes
 event-bytes-length e = event-parts-length (partsOfEvent e)
 
@@ -44,7 +44,7 @@ event-read-parts : (s : List ℕ) (e : Event) → readEvent s ≡ FoundEvent.Fou
 unfolding readEvent
 event-read-parts s e =
     chosen (λ (f : FoundEvent). f ≡ FoundEvent.Found e → partsOfEvent e ≡ eventPartsAt s)
-    (eqb (length s) 12) (eventOf (eventPartsAt s)) FoundEvent.Unknown
+    (eqb (length s) EVENT) (eventOf (eventPartsAt s)) FoundEvent.Unknown
     (λ _. event-parts (eventPartsAt s) e)
     (λ none. let z : _≡_ {A = ℕ} 0 1 = cc in absurd (omega arith))
 

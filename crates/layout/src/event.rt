@@ -35,7 +35,7 @@ pub fn read_event(s: &[u8]) -> FoundEvent
     })
 }
 
-pub fn event_bytes(event: Event) -> [u8; 12]
+pub fn event_bytes(event: Event) -> [u8; EVENT]
     ensures { λ r. ⌜ r ≡ eventBytes event ⌝ }
 {
     let parts = event.taken_apart();

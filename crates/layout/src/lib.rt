@@ -5,6 +5,7 @@ mod event;
 mod record;
 mod zeros;
 
+pub use block::AREA;
 pub use block::BLOCK;
 pub use block::CHECK_AT;
 pub use block::Head;

@@ -1,5 +1,6 @@
-// Events of 12 bytes through a fresh manager: a line an event (One listing, whole).
+// Events through a fresh manager: a line an event (One listing, whole).
 use kinds::Answer;
+use layout::BLOCK;
 use layout::EVENT;
 use layout::Head;
 use libc::STDOUT_FILENO;
@@ -8,7 +9,7 @@ use state::State;
 use words::ROOM;
 
 // Many events at a time.
-const PIECE: usize = 49152;
+const PIECE: usize = 4096 * EVENT;
 
 // The manager, and how much of the output buffer is taken.
 struct Listed {
@@ -88,7 +89,7 @@ fn list(first: Manager, piece: &[u8], out: &mut [u8; ROOM], from: usize) -> List
 }
 
 fn one(manager: Manager, event: &[u8], out: &mut [u8; ROOM], at: usize) -> Listed {
-    let mut lent = [0u8; 512];
+    let mut lent = [0u8; BLOCK];
     let before = manager.head;
     let stepped = manager::step(manager, event, &mut lent);
     let after = stepped.manager;

@@ -1,16 +1,17 @@
 -- `line::pairs` is safe and ends. Assumes nothing.
 use mathlib.Core.Path.{_≡_}
 use borrow.Author.Needs.{needs}
-use Prim.Native.Nat.{_≤_, _-_}
+use Prim.Native.Nat.{_≤_, _-_, _*_}
 use lib.ListN.{length}
+use Rattle.layout.specs.Event.{EVENT}
 use Rattle.assemble.proofs.line.pairs.Statement.{statement}
 use Rattle.assemble.proofs.line.pairs.Tie as tie
 
 abbrev Inv-loop : tie.InvT-loop
-Inv-loop digits bytes₀ i₀ bytes i = (i ≤ 12) × (length digits ≡ 24)
+Inv-loop digits bytes₀ i₀ bytes i = (i ≤ EVENT) × (length digits ≡ 2 * EVENT)
 
 abbrev μ-loop : tie.MeasureT-loop
-μ-loop digits bytes₀ i₀ bytes i = 12 - i
+μ-loop digits bytes₀ i₀ bytes i = EVENT - i
 
 wrong-requires : tie.Need-wrong-requires Inv-loop μ-loop
 wrong-requires c κs = search needs
