@@ -62,15 +62,15 @@ holdExit s = rule (only (inMode s Mode.Hold) ∷ []) Status.Success (Record.OpMo
 abbrev pub saaEnter : State → Rule
 saaEnter s =
     rule [] Status.Success
-    (Record.SaaChange true ∷ []
-    ++ stopPhysics s
+    (Record.SaaChange true
+    ∷ (stopPhysics s
     ++ (if lpaIs s Task.Running then Record.Wait WAIT-LONG ∷ [] else [])
-    ++ (if not (inMode s Mode.Terminal) then Record.SaaCfg ∷ [] else []))
+    ++ (if not (inMode s Mode.Terminal) then Record.SaaCfg ∷ [] else [])))
 
 abbrev pub saaExit : State → Rule
 saaExit s =
     rule [] Status.Success
-    (Record.SaaChange false ∷ [] ++ (if not (inMode s Mode.Terminal) then Record.NonSaaCfg ∷ [] else []))
+    (Record.SaaChange false ∷ (if not (inMode s Mode.Terminal) then Record.NonSaaCfg ∷ [] else []))
 
 -- the shedding itself, once both tasks are told to stop
 abbrev pub shedding : List Record
@@ -80,7 +80,7 @@ shedding =
 abbrev pub loadShed : State → Rule
 loadShed s =
     rule [] Status.Success
-    (Record.Alert ALERT-SHED ∷ [] ++ stopCalibration s ++ stopPhysics s ++ shedding)
+    (Record.Alert ALERT-SHED ∷ (stopCalibration s ++ stopPhysics s ++ shedding))
 
 abbrev pub noOp : State → Rule
 noOp s = rule (only (not (inMode s Mode.Hold)) ∷ []) Status.Success []
@@ -113,16 +113,16 @@ calOther s =
 abbrev pub calStatus : State → Bool → Rule
 calStatus s good =
     rule [] Status.Success
-    (Record.CalStatus good ∷ []
-    ++ (if inMode s Mode.Calibration && s .«lci_awaited» && not good
+    (Record.CalStatus good
+    ∷ (if inMode s Mode.Calibration && s .«lci_awaited» && not good
     then Record.LciState Task.Idle ∷ Record.OpMode Mode.Quiescent ∷ []
     else []))
 
 abbrev pub calComplete : State → Rule
 calComplete s =
     rule [] Status.Success
-    (Record.CalComp ∷ Record.LciState Task.Idle ∷ []
-    ++ (if inMode s Mode.Calibration then Record.OpMode Mode.Quiescent ∷ [] else []))
+    (Record.CalComp ∷ Record.LciState Task.Idle
+    ∷ (if inMode s Mode.Calibration then Record.OpMode Mode.Quiescent ∷ [] else []))
 
 -- a start in QUIESCENT is an ordinary run; in TOO it is the target's, which may have waited for it
 abbrev pub lpaModeToStart : State → LpaMode
@@ -137,9 +137,9 @@ lpaStart s run =
     ∷ (Status.OthStop, lpaIs s Task.Stopping)
     ∷ [])
     Status.PktSent
-    (Record.LpaStart (lpaModeToStart s) run ∷ Record.LpaState Task.Running ∷ []
-    ++ (if inMode s Mode.Quiescent then Record.OpMode Mode.Physics ∷ [] else [])
-    ++ (if inMode s Mode.Too && tooIs s TooState.Waiting then Record.TooState TooState.Started ∷ [] else []))
+    (Record.LpaStart (lpaModeToStart s) run ∷ Record.LpaState Task.Running
+    ∷ ((if inMode s Mode.Quiescent then Record.OpMode Mode.Physics ∷ [] else [])
+    ++ (if inMode s Mode.Too && tooIs s TooState.Waiting then Record.TooState TooState.Started ∷ [] else [])))
 
 abbrev pub lpaStop : State → Rule
 lpaStop s =
@@ -161,16 +161,16 @@ lpaOther s =
 abbrev pub lpaStatus : State → Bool → Rule
 lpaStatus s good =
     rule [] Status.Success
-    (Record.LpaStatus good ∷ []
-    ++ (if (inMode s Mode.Physics || inMode s Mode.Too) && s .«lpa_awaited» && not good
-    then Record.LpaState Task.Idle ∷ [] ++ (if inMode s Mode.Physics then Record.OpMode Mode.Quiescent ∷ [] else [])
+    (Record.LpaStatus good
+    ∷ (if (inMode s Mode.Physics || inMode s Mode.Too) && s .«lpa_awaited» && not good
+    then Record.LpaState Task.Idle ∷ (if inMode s Mode.Physics then Record.OpMode Mode.Quiescent ∷ [] else [])
     else []))
 
 abbrev pub lpaComplete : State → Rule
 lpaComplete s =
     rule [] Status.Success
-    (Record.LpaComp ∷ Record.LpaState Task.Idle ∷ []
-    ++ (if inMode s Mode.Physics then Record.OpMode Mode.Quiescent ∷ [] else []))
+    (Record.LpaComp ∷ Record.LpaState Task.Idle
+    ∷ (if inMode s Mode.Physics then Record.OpMode Mode.Quiescent ∷ [] else []))
 
 -- a target of opportunity starts physics where it is idle outside the SAA
 abbrev pub startsPhysics : State → Bool
@@ -193,13 +193,13 @@ tooStart s run dwell =
     ∷ (Status.BadParam, not (dwellInRange dwell))
     ∷ [])
     (if startsPhysics s then Status.PktSent else Status.Success)
-    (Record.TooTimerStart dwell ∷ [] ++ tooStarting s run ++ Record.OpMode Mode.Too ∷ [])
+    (Record.TooTimerStart dwell ∷ (tooStarting s run ++ Record.OpMode Mode.Too ∷ []))
 
 -- the way out of mode TOO: a physics run goes on as an ordinary one
 abbrev pub leaveToo : State → List Record
 leaveToo s =
-    Record.TooTimerStop ∷ Record.TooState TooState.None ∷ []
-    ++ (if lpaIs s Task.Running
+    Record.TooTimerStop ∷ Record.TooState TooState.None
+    ∷ (if lpaIs s Task.Running
     then Record.LpaMode LpaMode.Normal ∷ Record.OpMode Mode.Physics ∷ []
     else Record.OpMode Mode.Quiescent ∷ [])
 
