@@ -6,7 +6,7 @@ use mathlib.Core.List.{List, [], _∷_, _++_}
 use lib.Dec.{eqb}
 use Rattle.kinds.specs.Choice.{if_then_else_}
 use Rattle.events.specs.Event.{partsOfEvent, STARTED}
-use Rattle.records.specs.Record.{dwellInRange, maskInRange}
+use Rattle.records.specs.Record.{WAIT-SHORT, WAIT-LONG, ALERT-SHED, dwellInRange, maskInRange}
 use Rattle.kinds.specs.declared.mode.Mode.{Mode}
 use Rattle.kinds.specs.declared.task.Task.{Task}
 use Rattle.kinds.specs.declared.lpa_mode.LpaMode.{LpaMode}
@@ -62,24 +62,25 @@ holdExit s = rule (only (inMode s Mode.Hold) ∷ []) Status.Success (Record.OpMo
 abbrev pub saaEnter : State → Rule
 saaEnter s =
     rule [] Status.Success
-    (Record.SaaChange true ∷ []
-    ++ (if lpaIs s Task.Running then Record.LpaStop ∷ Record.LpaState Task.Stopping ∷ Record.Wait 5 ∷ [] else [])
-    ++ (if inMode s Mode.Terminal then [] else Record.SaaCfg ∷ []))
+    (Record.SaaChange true
+    ∷ (stopPhysics s
+    ++ (if lpaIs s Task.Running then Record.Wait WAIT-LONG ∷ [] else [])
+    ++ (if not (inMode s Mode.Terminal) then Record.SaaCfg ∷ [] else [])))
 
 abbrev pub saaExit : State → Rule
 saaExit s =
     rule [] Status.Success
-    (Record.SaaChange false ∷ [] ++ (if inMode s Mode.Terminal then [] else Record.NonSaaCfg ∷ []))
+    (Record.SaaChange false ∷ (if not (inMode s Mode.Terminal) then Record.NonSaaCfg ∷ [] else []))
 
 -- the shedding itself, once both tasks are told to stop
 abbrev pub shedding : List Record
 shedding =
-    Record.LtcStop ∷ Record.Wait 5 ∷ Record.ShedBegin ∷ Record.ShedEnd ∷ Record.SiuReboot ∷ Record.Wait 1 ∷ []
+    Record.LtcStop ∷ Record.Wait WAIT-LONG ∷ Record.ShedBegin ∷ Record.ShedEnd ∷ Record.SiuReboot ∷ Record.Wait WAIT-SHORT ∷ []
 
 abbrev pub loadShed : State → Rule
 loadShed s =
     rule [] Status.Success
-    (Record.Alert 0x346 ∷ [] ++ stopCalibration s ++ stopPhysics s ++ shedding)
+    (Record.Alert ALERT-SHED ∷ (stopCalibration s ++ stopPhysics s ++ shedding))
 
 abbrev pub noOp : State → Rule
 noOp s = rule (only (not (inMode s Mode.Hold)) ∷ []) Status.Success []
@@ -91,12 +92,16 @@ calStart s =
     Status.PktSent
     (Record.CalStart ∷ Record.LciState Task.Running ∷ Record.OpMode Mode.Calibration ∷ [])
 
+-- what an abort makes of the calibration
+abbrev pub calAborted : State → Task
+calAborted s = if lciIs s Task.Idle then Task.Idle else Task.Stopping
+
 abbrev pub calAbort : State → Rule
 calAbort s =
     rule
     (only (not (inMode s Mode.Terminal || inMode s Mode.Hold)) ∷ [])
     Status.Fwd
-    (Record.CalAbort ∷ Record.LciState (if lciIs s Task.Idle then Task.Idle else Task.Stopping) ∷ [])
+    (Record.CalAbort ∷ Record.LciState (calAborted s) ∷ [])
 
 abbrev pub calOther : State → Rule
 calOther s =
@@ -108,24 +113,20 @@ calOther s =
 abbrev pub calStatus : State → Bool → Rule
 calStatus s good =
     rule [] Status.Success
-    (Record.CalStatus good ∷ []
-    ++ (if inMode s Mode.Calibration && s .«lci_awaited» && not good
+    (Record.CalStatus good
+    ∷ (if inMode s Mode.Calibration && s .«lci_awaited» && not good
     then Record.LciState Task.Idle ∷ Record.OpMode Mode.Quiescent ∷ []
     else []))
 
 abbrev pub calComplete : State → Rule
 calComplete s =
     rule [] Status.Success
-    (Record.CalComp ∷ Record.LciState Task.Idle ∷ []
-    ++ (if inMode s Mode.Calibration then Record.OpMode Mode.Quiescent ∷ [] else []))
+    (Record.CalComp ∷ Record.LciState Task.Idle
+    ∷ (if inMode s Mode.Calibration then Record.OpMode Mode.Quiescent ∷ [] else []))
 
 -- a start in QUIESCENT is an ordinary run; in TOO it is the target's, which may have waited for it
-abbrev pub lpaStarting : State → ℕ → List Record
-lpaStarting s run =
-    if inMode s Mode.Quiescent
-    then Record.LpaStart LpaMode.Normal run ∷ Record.LpaState Task.Running ∷ Record.OpMode Mode.Physics ∷ []
-    else Record.LpaStart LpaMode.Too run ∷ Record.LpaState Task.Running ∷ []
-    ++ (if tooIs s TooState.Waiting then Record.TooState TooState.Started ∷ [] else [])
+abbrev pub lpaModeToStart : State → LpaMode
+lpaModeToStart s = if inMode s Mode.Quiescent then LpaMode.Normal else LpaMode.Too
 
 abbrev pub lpaStart : State → ℕ → Rule
 lpaStart s run =
@@ -136,7 +137,9 @@ lpaStart s run =
     ∷ (Status.OthStop, lpaIs s Task.Stopping)
     ∷ [])
     Status.PktSent
-    (lpaStarting s run)
+    (Record.LpaStart (lpaModeToStart s) run ∷ Record.LpaState Task.Running
+    ∷ ((if inMode s Mode.Quiescent then Record.OpMode Mode.Physics ∷ [] else [])
+    ++ (if inMode s Mode.Too && tooIs s TooState.Waiting then Record.TooState TooState.Started ∷ [] else [])))
 
 abbrev pub lpaStop : State → Rule
 lpaStop s =
@@ -158,31 +161,29 @@ lpaOther s =
 abbrev pub lpaStatus : State → Bool → Rule
 lpaStatus s good =
     rule [] Status.Success
-    (Record.LpaStatus good ∷ []
-    ++ (if (inMode s Mode.Physics || inMode s Mode.Too) && s .«lpa_awaited» && not good
-    then Record.LpaState Task.Idle ∷ [] ++ (if inMode s Mode.Physics then Record.OpMode Mode.Quiescent ∷ [] else [])
+    (Record.LpaStatus good
+    ∷ (if (inMode s Mode.Physics || inMode s Mode.Too) && s .«lpa_awaited» && not good
+    then Record.LpaState Task.Idle ∷ (if inMode s Mode.Physics then Record.OpMode Mode.Quiescent ∷ [] else [])
     else []))
 
 abbrev pub lpaComplete : State → Rule
 lpaComplete s =
     rule [] Status.Success
-    (Record.LpaComp ∷ Record.LpaState Task.Idle ∷ []
-    ++ (if inMode s Mode.Physics then Record.OpMode Mode.Quiescent ∷ [] else []))
+    (Record.LpaComp ∷ Record.LpaState Task.Idle
+    ∷ (if inMode s Mode.Physics then Record.OpMode Mode.Quiescent ∷ [] else []))
 
 -- a target of opportunity starts physics where it is idle outside the SAA
 abbrev pub startsPhysics : State → Bool
 startsPhysics s = lpaIs s Task.Idle && not (s .saa)
 
--- it starts its timer, and then starts physics, takes over a run, or waits
-abbrev pub tooStarting : State → ℕ → ℕ → List Record
-tooStarting s run dwell =
-    Record.TooTimerStart dwell ∷ []
-    ++ (if startsPhysics s
-    then Record.LpaStart LpaMode.Too run ∷ Record.LpaState Task.Running ∷ Record.TooState TooState.Started ∷ []
-    else if lpaIs s Task.Running
+-- it takes over a run, starts one, or waits
+abbrev pub tooStarting : State → ℕ → List Record
+tooStarting s run =
+    if lpaIs s Task.Running
     then Record.LpaMode LpaMode.Too ∷ Record.TooState TooState.Started ∷ []
-    else Record.TooState TooState.Waiting ∷ [])
-    ++ Record.OpMode Mode.Too ∷ []
+    else if startsPhysics s
+    then Record.LpaStart LpaMode.Too run ∷ Record.LpaState Task.Running ∷ Record.TooState TooState.Started ∷ []
+    else Record.TooState TooState.Waiting ∷ []
 
 abbrev pub tooStart : State → ℕ → ℕ → Rule
 tooStart s run dwell =
@@ -192,21 +193,22 @@ tooStart s run dwell =
     ∷ (Status.BadParam, not (dwellInRange dwell))
     ∷ [])
     (if startsPhysics s then Status.PktSent else Status.Success)
-    (tooStarting s run dwell)
+    (Record.TooTimerStart dwell ∷ (tooStarting s run ++ Record.OpMode Mode.Too ∷ []))
 
 -- the way out of mode TOO: a physics run goes on as an ordinary one
 abbrev pub leaveToo : State → List Record
 leaveToo s =
-    Record.TooTimerStop ∷ Record.TooState TooState.None ∷ []
-    ++ (if lpaIs s Task.Running
+    Record.TooTimerStop ∷ Record.TooState TooState.None
+    ∷ (if lpaIs s Task.Running
     then Record.LpaMode LpaMode.Normal ∷ Record.OpMode Mode.Physics ∷ []
     else Record.OpMode Mode.Quiescent ∷ [])
 
+abbrev pub tooExpired : State → ℕ → Rule
+tooExpired s armed =
+    rule ((Status.Stale, not (inMode s Mode.Too && eqb armed (s .armed))) ∷ []) Status.Success (leaveToo s)
+
 abbrev pub tooAbort : State → Rule
 tooAbort s = rule (only (inMode s Mode.Too) ∷ []) Status.Success (leaveToo s)
-
-abbrev pub tooExpired : State → ℕ → Rule
-tooExpired s armed = rule ((Status.Stale, not (inMode s Mode.Too && eqb armed (s .armed))) ∷ []) Status.Success (leaveToo s)
 
 -- the rule of an event
 unfoldable pub ruleOf : State → Event → Rule

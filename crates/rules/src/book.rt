@@ -29,7 +29,7 @@ use crate::too::too_expired;
 use crate::too::too_start;
 use draft::Ruling;
 use draft::closed;
-use draft::records_0;
+use draft::refused;
 use events::Event;
 use kinds::Mode;
 use kinds::Status;
@@ -48,7 +48,7 @@ fn heard(s: State, event: Event) -> Ruling
     ensures { λ r. ⌜ r ≡ ruledAs s (verdictOf s event) ⌝ }
 {
     if unheard(s, event) {
-        return records_0(s, Status::NotRun);
+        return refused(s, Status::NotRun);
     }
     by_rule(s, event)
 }

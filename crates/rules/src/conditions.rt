@@ -3,7 +3,6 @@ ghost use mathlib.Core.Path.{_≡_};
 ghost use Rattle.rules.specs.Rule.{inMode, lciIs, lpaIs, tooIs, stopCalibration, stopPhysics, endToo};
 ghost use Rattle.draft.specs.Draft.{emits};
 use draft::Draft;
-use draft::emit;
 use kinds::Mode;
 use kinds::Task;
 use kinds::TooState;
@@ -42,37 +41,31 @@ pub(crate) fn stop_calibration(s: State, draft: Draft) -> Draft
     ensures { λ r. ⌜ r ≡ emits draft (stopCalibration s) ⌝ }
 {
     if lci_is(s, Task::Running) {
-        emit(
-            emit(draft, Record::CalAbort),
-            Record::LciState(Task::Stopping),
-        )
-    } else {
-        draft
+        return draft
+            .emit(Record::CalAbort)
+            .emit(Record::LciState(Task::Stopping));
     }
+    draft
 }
 
 pub(crate) fn stop_physics(s: State, draft: Draft) -> Draft
     ensures { λ r. ⌜ r ≡ emits draft (stopPhysics s) ⌝ }
 {
     if lpa_is(s, Task::Running) {
-        emit(
-            emit(draft, Record::LpaStop),
-            Record::LpaState(Task::Stopping),
-        )
-    } else {
-        draft
+        return draft
+            .emit(Record::LpaStop)
+            .emit(Record::LpaState(Task::Stopping));
     }
+    draft
 }
 
 pub(crate) fn end_too(s: State, draft: Draft) -> Draft
     ensures { λ r. ⌜ r ≡ emits draft (endToo s) ⌝ }
 {
     if in_mode(s, Mode::Too) {
-        emit(
-            emit(draft, Record::TooTimerStop),
-            Record::TooState(TooState::None),
-        )
-    } else {
-        draft
+        return draft
+            .emit(Record::TooTimerStop)
+            .emit(Record::TooState(TooState::None));
     }
+    draft
 }

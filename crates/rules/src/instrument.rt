@@ -1,6 +1,5 @@
 // The rules of the instrument as a whole: start, power, hold, SAA, load shed (Mode rules).
 ghost use mathlib.Core.Path.{_≡_};
-ghost use Rattle.records.specs.Record.{maskInRange};
 ghost use Rattle.rules.specs.Rule.{decide};
 ghost use Rattle.rules.specs.Rules.{
   started,
@@ -26,12 +25,7 @@ use crate::conditions::stop_physics;
 use draft::Draft;
 use draft::Ruling;
 use draft::blank;
-use draft::emit;
-use draft::records_0;
-use draft::records_1;
-use draft::records_2;
-use draft::records_4;
-use draft::records_5;
+use draft::refused;
 use kinds::Mode;
 use kinds::Status;
 use kinds::Task;
@@ -42,23 +36,23 @@ pub(crate) fn started(s: State) -> Ruling
     ensures { λ r. ⌜ r ≡ ruledAs s (decide (started s)) ⌝ }
 {
     if !in_mode(s, Mode::Boot) {
-        return records_0(s, Status::BadMode);
+        return refused(s, Status::BadMode);
     }
-    records_1(s, Status::Success, Record::OpMode(Mode::Terminal))
+    blank(s)
+        .emit(Record::OpMode(Mode::Terminal))
+        .done(Status::Success)
 }
 
 pub(crate) fn main_feed_on(s: State) -> Ruling
     ensures { λ r. ⌜ r ≡ ruledAs s (decide (mainFeedOn s)) ⌝ }
 {
     if !in_mode(s, Mode::Terminal) {
-        return records_0(s, Status::BadMode);
+        return refused(s, Status::BadMode);
     }
-    records_2(
-        s,
-        Status::Success,
-        Record::MainFeed,
-        Record::OpMode(Mode::Quiescent),
-    )
+    let draft = blank(s).emit(Record::MainFeed);
+    draft
+        .emit(Record::OpMode(Mode::Quiescent))
+        .done(Status::Success)
 }
 
 fn configured(s: State) -> Record
@@ -75,24 +69,27 @@ pub(crate) fn power_on(s: State, mask: u32) -> Ruling
     ensures { λ r. ⌜ r ≡ ruledAs s (decide (powerOn s mask)) ⌝ }
 {
     if !in_mode(s, Mode::Quiescent) {
-        return records_0(s, Status::BadMode);
+        return refused(s, Status::BadMode);
     }
     if mask == 0 {
-        return records_0(s, Status::BadParam);
+        return refused(s, Status::BadParam);
     }
-    records_2(s, Status::Success, Record::PowerOn { mask }, configured(s))
+    let draft = blank(s).emit(Record::PowerOn { mask }).emit(configured(s));
+    draft.done(Status::Success)
 }
 
 pub(crate) fn power_off(s: State, mask: u32) -> Ruling
     ensures { λ r. ⌜ r ≡ ruledAs s (decide (powerOff s mask)) ⌝ }
 {
     if !in_mode(s, Mode::Quiescent) {
-        return records_0(s, Status::BadMode);
+        return refused(s, Status::BadMode);
     }
     if mask == 0 {
-        return records_0(s, Status::BadParam);
+        return refused(s, Status::BadParam);
     }
-    records_1(s, Status::Success, Record::PowerOff { mask })
+    blank(s)
+        .emit(Record::PowerOff { mask })
+        .done(Status::Success)
 }
 
 pub(crate) fn hold_enter(s: State) -> Ruling
@@ -100,64 +97,45 @@ pub(crate) fn hold_enter(s: State) -> Ruling
 {
     let quiet = in_mode(s, Mode::Quiescent) | in_mode(s, Mode::Calibration);
     if !(quiet | in_mode(s, Mode::Physics) | in_mode(s, Mode::Too)) {
-        return records_0(s, Status::BadMode);
+        return refused(s, Status::BadMode);
     }
-    let stopped = stop_physics(s, stop_calibration(s, blank(s)));
-    Ruling {
-        status: Status::Success,
-        draft: emit(end_too(s, stopped), Record::OpMode(Mode::Hold)),
-    }
+    let draft = stop_calibration(s, blank(s));
+    let draft = stop_physics(s, draft);
+    let draft = end_too(s, draft);
+    draft.emit(Record::OpMode(Mode::Hold)).done(Status::Success)
 }
 
 pub(crate) fn hold_exit(s: State) -> Ruling
     ensures { λ r. ⌜ r ≡ ruledAs s (decide (holdExit s)) ⌝ }
 {
     if !in_mode(s, Mode::Hold) {
-        return records_0(s, Status::BadMode);
+        return refused(s, Status::BadMode);
     }
-    records_1(s, Status::Success, Record::OpMode(Mode::Quiescent))
+    blank(s)
+        .emit(Record::OpMode(Mode::Quiescent))
+        .done(Status::Success)
 }
 
 pub(crate) fn saa_enter(s: State) -> Ruling
     ensures { λ r. ⌜ r ≡ ruledAs s (decide (saaEnter s)) ⌝ }
 {
-    let entered = Record::SaaChange(true);
-    let stopping = Record::LpaState(Task::Stopping);
     let wait = Record::Wait {
         seconds: Record::WAIT_LONG,
     };
-    if lpa_is(s, Task::Running) {
-        if in_mode(s, Mode::Terminal) {
-            return records_4(s, Status::Success, entered, Record::LpaStop, stopping, wait);
-        }
-        return records_5(
-            s,
-            Status::Success,
-            entered,
-            Record::LpaStop,
-            stopping,
-            wait,
-            Record::SaaCfg,
-        );
-    }
-    if in_mode(s, Mode::Terminal) {
-        return records_1(s, Status::Success, entered);
-    }
-    records_2(s, Status::Success, entered, Record::SaaCfg)
+    let draft = stop_physics(s, blank(s).emit(Record::SaaChange(true)));
+    let draft = draft.emit_if(lpa_is(s, Task::Running), wait);
+    draft
+        .emit_if(!in_mode(s, Mode::Terminal), Record::SaaCfg)
+        .done(Status::Success)
 }
 
 pub(crate) fn saa_exit(s: State) -> Ruling
     ensures { λ r. ⌜ r ≡ ruledAs s (decide (saaExit s)) ⌝ }
 {
-    if in_mode(s, Mode::Terminal) {
-        return records_1(s, Status::Success, Record::SaaChange(false));
-    }
-    records_2(
-        s,
-        Status::Success,
-        Record::SaaChange(false),
-        Record::NonSaaCfg,
-    )
+    let draft = blank(s).emit(Record::SaaChange(false));
+    draft
+        .emit_if(!in_mode(s, Mode::Terminal), Record::NonSaaCfg)
+        .done(Status::Success)
 }
 
 pub(crate) fn load_shed(s: State) -> Ruling
@@ -166,11 +144,9 @@ pub(crate) fn load_shed(s: State) -> Ruling
     let alert = Record::Alert {
         number: Record::ALERT_SHED,
     };
-    let stopped = stop_physics(s, stop_calibration(s, emit(blank(s), alert)));
-    Ruling {
-        status: Status::Success,
-        draft: shed(stopped),
-    }
+    let draft = stop_calibration(s, blank(s).emit(alert));
+    let draft = stop_physics(s, draft);
+    shed(draft).done(Status::Success)
 }
 
 fn shed(draft: Draft) -> Draft
@@ -182,16 +158,16 @@ fn shed(draft: Draft) -> Draft
     let short = Record::Wait {
         seconds: Record::WAIT_SHORT,
     };
-    let waited = emit(emit(draft, Record::LtcStop), long);
-    let ended = emit(emit(waited, Record::ShedBegin), Record::ShedEnd);
-    emit(emit(ended, Record::SiuReboot), short)
+    let draft = draft.emit(Record::LtcStop).emit(long);
+    let draft = draft.emit(Record::ShedBegin).emit(Record::ShedEnd);
+    draft.emit(Record::SiuReboot).emit(short)
 }
 
 pub(crate) fn no_op(s: State) -> Ruling
     ensures { λ r. ⌜ r ≡ ruledAs s (decide (noOp s)) ⌝ }
 {
     if in_mode(s, Mode::Hold) {
-        return records_0(s, Status::BadMode);
+        return refused(s, Status::BadMode);
     }
-    records_0(s, Status::Success)
+    blank(s).done(Status::Success)
 }

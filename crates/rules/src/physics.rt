@@ -1,17 +1,14 @@
 // The rules of the physics task, LPA (Mode rules).
 ghost use mathlib.Core.Path.{_≡_};
-ghost use Rattle.kinds.specs.declared.status.Status.{Status};
-ghost use Rattle.rules.specs.Rule.{decide, verdict};
-ghost use Rattle.rules.specs.Rules.{lpaStarting, lpaStart, lpaStop, lpaOther, lpaStatus, lpaComplete};
+ghost use Rattle.rules.specs.Rule.{decide};
+ghost use Rattle.rules.specs.Rules.{lpaModeToStart, lpaStart, lpaStop, lpaOther, lpaStatus, lpaComplete};
 ghost use Rattle.rules.specs.Ruling.{ruledAs};
 use crate::conditions::in_mode;
 use crate::conditions::lpa_is;
 use crate::conditions::too_is;
 use draft::Ruling;
-use draft::records_0;
-use draft::records_1;
-use draft::records_2;
-use draft::records_3;
+use draft::blank;
+use draft::refused;
 use kinds::LpaMode;
 use kinds::Mode;
 use kinds::Status;
@@ -23,114 +20,93 @@ use state::State;
 pub(crate) fn lpa_start(s: State, run: u32) -> Ruling
     ensures { λ r. ⌜ r ≡ ruledAs s (decide (lpaStart s run)) ⌝ }
 {
-    if !(in_mode(s, Mode::Quiescent) | in_mode(s, Mode::Too)) {
-        return records_0(s, Status::BadMode);
+    let quiescent = in_mode(s, Mode::Quiescent);
+    let too = in_mode(s, Mode::Too);
+    if !(quiescent | too) {
+        return refused(s, Status::BadMode);
     }
     if s.saa {
-        return records_0(s, Status::Saa);
+        return refused(s, Status::Saa);
     }
     if lpa_is(s, Task::Running) {
-        return records_0(s, Status::OthRun);
+        return refused(s, Status::OthRun);
     }
     if lpa_is(s, Task::Stopping) {
-        return records_0(s, Status::OthStop);
+        return refused(s, Status::OthStop);
     }
-    started(s, run)
+    let mode = mode_to_start(s);
+    let draft = blank(s)
+        .emit(Record::LpaStart { mode, run })
+        .emit(Record::LpaState(Task::Running));
+    let draft = draft.emit_if(quiescent, Record::OpMode(Mode::Physics));
+    let waiting = too_is(s, TooState::Waiting);
+    draft
+        .emit_if(too & waiting, Record::TooState(TooState::Started))
+        .done(Status::PktSent)
 }
 
-// Where LPA can be started, how it is: for the observation or for the target of opportunity.
-fn started(s: State, run: u32) -> Ruling
-    ensures { λ r. ⌜ r ≡ ruledAs s (verdict Status.PktSent (lpaStarting s run)) ⌝ }
+// For the observation, or for the target of opportunity.
+fn mode_to_start(s: State) -> LpaMode
+    ensures { λ r. ⌜ r ≡ lpaModeToStart s ⌝ }
 {
-    let running = Record::LpaState(Task::Running);
-    let mode = LpaMode::Too;
     if in_mode(s, Mode::Quiescent) {
-        let mode = LpaMode::Normal;
-        return records_3(
-            s,
-            Status::PktSent,
-            Record::LpaStart { mode, run },
-            running,
-            Record::OpMode(Mode::Physics),
-        );
+        LpaMode::Normal
+    } else {
+        LpaMode::Too
     }
-    if too_is(s, TooState::Waiting) {
-        return records_3(
-            s,
-            Status::PktSent,
-            Record::LpaStart { mode, run },
-            running,
-            Record::TooState(TooState::Started),
-        );
-    }
-    records_2(s, Status::PktSent, Record::LpaStart { mode, run }, running)
 }
 
 pub(crate) fn lpa_stop(s: State) -> Ruling
     ensures { λ r. ⌜ r ≡ ruledAs s (decide (lpaStop s)) ⌝ }
 {
     if !(in_mode(s, Mode::Physics) | in_mode(s, Mode::Too)) {
-        return records_0(s, Status::BadMode);
+        return refused(s, Status::BadMode);
     }
     if lpa_is(s, Task::Idle) {
-        return records_0(s, Status::OthIdle);
+        return refused(s, Status::OthIdle);
     }
-    records_2(
-        s,
-        Status::PktSent,
-        Record::LpaStop,
-        Record::LpaState(Task::Stopping),
-    )
+    let draft = blank(s)
+        .emit(Record::LpaStop)
+        .emit(Record::LpaState(Task::Stopping));
+    draft.done(Status::PktSent)
 }
 
 pub(crate) fn lpa_other(s: State) -> Ruling
     ensures { λ r. ⌜ r ≡ ruledAs s (decide (lpaOther s)) ⌝ }
 {
     if !(in_mode(s, Mode::Physics) | in_mode(s, Mode::Too)) {
-        return records_0(s, Status::BadMode);
+        return refused(s, Status::BadMode);
     }
     if lpa_is(s, Task::Stopping) {
-        return records_0(s, Status::OthStop);
+        return refused(s, Status::OthStop);
     }
     if lpa_is(s, Task::Idle) {
-        return records_0(s, Status::OthIdle);
+        return refused(s, Status::OthIdle);
     }
-    records_1(s, Status::Fwd, Record::LpaOther)
+    blank(s).emit(Record::LpaOther).done(Status::Fwd)
 }
 
 pub(crate) fn lpa_status(s: State, good: bool) -> Ruling
     ensures { λ r. ⌜ r ≡ ruledAs s (decide (lpaStatus s good)) ⌝ }
 {
-    let report = Record::LpaStatus(good);
-    let idle = Record::LpaState(Task::Idle);
+    let draft = blank(s).emit(Record::LpaStatus(good));
     let physics = in_mode(s, Mode::Physics);
     if (physics | in_mode(s, Mode::Too)) & s.lpa_awaited & !good {
-        if physics {
-            return records_3(
-                s,
-                Status::Success,
-                report,
-                idle,
-                Record::OpMode(Mode::Quiescent),
-            );
-        }
-        return records_2(s, Status::Success, report, idle);
+        let idle = draft.emit(Record::LpaState(Task::Idle));
+        return idle.emit_if(physics, Record::OpMode(Mode::Quiescent))
+            .done(Status::Success);
     }
-    records_1(s, Status::Success, report)
+    draft.done(Status::Success)
 }
 
 pub(crate) fn lpa_complete(s: State) -> Ruling
     ensures { λ r. ⌜ r ≡ ruledAs s (decide (lpaComplete s)) ⌝ }
 {
-    let idle = Record::LpaState(Task::Idle);
-    if in_mode(s, Mode::Physics) {
-        return records_3(
-            s,
-            Status::Success,
-            Record::LpaComp,
-            idle,
-            Record::OpMode(Mode::Quiescent),
-        );
-    }
-    records_2(s, Status::Success, Record::LpaComp, idle)
+    let draft = blank(s)
+        .emit(Record::LpaComp)
+        .emit(Record::LpaState(Task::Idle));
+    let physics = in_mode(s, Mode::Physics);
+    draft
+        .emit_if(physics, Record::OpMode(Mode::Quiescent))
+        .done(Status::Success)
 }

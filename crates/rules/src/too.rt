@@ -1,19 +1,17 @@
 // The rules of the target of opportunity (Mode rules).
 ghost use mathlib.Core.Path.{_≡_};
-ghost use lib.Dec.{eqb};
 ghost use Rattle.kinds.specs.Choice.{if_then_else_};
-ghost use Rattle.records.specs.Record.{dwellInRange};
 ghost use Rattle.kinds.specs.declared.status.Status.{Status};
-ghost use Rattle.rules.specs.Rule.{decide, verdict};
-ghost use Rattle.rules.specs.Rules.{tooStarting, tooStart, startsPhysics, tooAbort, tooExpired, leaveToo};
+ghost use Rattle.draft.specs.Draft.{emits};
+ghost use Rattle.rules.specs.Rule.{decide};
+ghost use Rattle.rules.specs.Rules.{startsPhysics, tooStarting, tooStart, tooExpired, tooAbort, leaveToo};
 ghost use Rattle.rules.specs.Ruling.{ruledAs};
 use crate::conditions::in_mode;
 use crate::conditions::lpa_is;
+use draft::Draft;
 use draft::Ruling;
-use draft::records_0;
-use draft::records_3;
-use draft::records_4;
-use draft::records_5;
+use draft::blank;
+use draft::refused;
 use kinds::LpaMode;
 use kinds::Mode;
 use kinds::Status;
@@ -27,88 +25,78 @@ pub(crate) fn too_start(s: State, run: u32, dwell: u32) -> Ruling
 {
     let too = in_mode(s, Mode::Too);
     if !(too | in_mode(s, Mode::Quiescent) | in_mode(s, Mode::Physics)) {
-        return records_0(s, Status::BadMode);
+        return refused(s, Status::BadMode);
     }
     if too {
-        return records_0(s, Status::TooAct);
+        return refused(s, Status::TooAct);
     }
     if !records::dwell_in_range(dwell) {
-        return records_0(s, Status::BadParam);
+        return refused(s, Status::BadParam);
     }
-    begun(s, run, dwell)
+    let draft = blank(s).emit(Record::TooTimerStart { dwell });
+    let draft = too_starting(s, run, draft);
+    draft.emit(Record::OpMode(Mode::Too)).done(sent(s))
 }
 
-// What begins with the target's timer: it takes over a run, starts one, or waits.
-fn begun(s: State, run: u32, dwell: u32) -> Ruling
-    ensures { λ r. ⌜ r ≡ ruledAs s
-        (verdict (if startsPhysics s then Status.PktSent else Status.Success) (tooStarting s run dwell)) ⌝ }
+fn starts_physics(s: State) -> bool
+    ensures { λ r. ⌜ r ≡ startsPhysics s ⌝ }
 {
-    let timer = Record::TooTimerStart { dwell };
-    let started = Record::TooState(TooState::Started);
+    lpa_is(s, Task::Idle) & !s.saa
+}
+
+fn sent(s: State) -> Status
+    ensures { λ r. ⌜ r ≡ (if startsPhysics s then Status.PktSent else Status.Success) ⌝ }
+{
+    if starts_physics(s) {
+        Status::PktSent
+    } else {
+        Status::Success
+    }
+}
+
+fn too_starting(s: State, run: u32, draft: Draft) -> Draft
+    ensures { λ r. ⌜ r ≡ emits draft (tooStarting s run) ⌝ }
+{
     let mode = LpaMode::Too;
-    let too = Record::OpMode(Mode::Too);
-    if lpa_is(s, Task::Idle) & !s.saa {
-        let start = Record::LpaStart { mode, run };
-        let running = Record::LpaState(Task::Running);
-        return records_5(s, Status::PktSent, timer, start, running, started, too);
-    }
+    let started = Record::TooState(TooState::Started);
     if lpa_is(s, Task::Running) {
-        return records_4(
-            s,
-            Status::Success,
-            timer,
-            Record::LpaMode(mode),
-            started,
-            too,
-        );
+        return draft.emit(Record::LpaMode(mode)).emit(started);
     }
-    records_3(
-        s,
-        Status::Success,
-        timer,
-        Record::TooState(TooState::Waiting),
-        too,
-    )
-}
-
-pub(crate) fn too_abort(s: State) -> Ruling
-    ensures { λ r. ⌜ r ≡ ruledAs s (decide (tooAbort s)) ⌝ }
-{
-    if !in_mode(s, Mode::Too) {
-        return records_0(s, Status::BadMode);
+    if starts_physics(s) {
+        let draft = draft.emit(Record::LpaStart { mode, run });
+        return draft.emit(Record::LpaState(Task::Running)).emit(started);
     }
-    left(s)
+    draft.emit(Record::TooState(TooState::Waiting))
 }
 
 pub(crate) fn too_expired(s: State, armed: u32) -> Ruling
     ensures { λ r. ⌜ r ≡ ruledAs s (decide (tooExpired s armed)) ⌝ }
 {
     if !(in_mode(s, Mode::Too) & (armed == s.armed)) {
-        return records_0(s, Status::Stale);
+        return refused(s, Status::Stale);
     }
-    left(s)
+    leave_too(s, blank(s)).done(Status::Success)
 }
 
-fn left(s: State) -> Ruling
-    ensures { λ r. ⌜ r ≡ ruledAs s (verdict Status.Success (leaveToo s)) ⌝ }
+pub(crate) fn too_abort(s: State) -> Ruling
+    ensures { λ r. ⌜ r ≡ ruledAs s (decide (tooAbort s)) ⌝ }
 {
-    let stop = Record::TooTimerStop;
-    let none = Record::TooState(TooState::None);
-    if lpa_is(s, Task::Running) {
-        return records_4(
-            s,
-            Status::Success,
-            stop,
-            none,
-            Record::LpaMode(LpaMode::Normal),
-            Record::OpMode(Mode::Physics),
-        );
+    if !in_mode(s, Mode::Too) {
+        return refused(s, Status::BadMode);
     }
-    records_3(
-        s,
-        Status::Success,
-        stop,
-        none,
-        Record::OpMode(Mode::Quiescent),
-    )
+    leave_too(s, blank(s)).done(Status::Success)
+}
+
+fn leave_too(s: State, draft: Draft) -> Draft
+    ensures { λ r. ⌜ r ≡ emits draft (leaveToo s) ⌝ }
+{
+    let draft = draft
+        .emit(Record::TooTimerStop)
+        .emit(Record::TooState(TooState::None));
+    if lpa_is(s, Task::Running) {
+        return draft
+            .emit(Record::LpaMode(LpaMode::Normal))
+            .emit(Record::OpMode(Mode::Physics));
+    }
+    draft.emit(Record::OpMode(Mode::Quiescent))
 }

@@ -1,6 +1,7 @@
 -- `heard`: in BOOT only STARTED is.
 -- Assumes nothing.
 use borrow.Author.Needs.{needs}
+use Rattle.draft.specs.DraftLaws.{emitting}
 use Rattle.rules.specs.Rules.{verdictOf}
 use Rattle.rules.proofs.book.heard.Statement.{statement}
 use Rattle.rules.proofs.book.heard.Tie as tie
@@ -12,6 +13,6 @@ heard-spec =
     (tie.spec
     (λ c κs. search needs)
     (λ c κs. search needs)
-    (λ c. simp (c .before .if1 .taken, ← c .before .before .unheard .ensures) (c .records-0 .ensures))
+    (λ c. simp (c .before .if1 .taken, ← c .before .before .unheard .ensures) (c .refused .ensures))
     (λ c κs. search needs)
     (λ c. simp (c .before .if1 .left, ← c .before .before .unheard .ensures) (c .by-rule .ensures)))

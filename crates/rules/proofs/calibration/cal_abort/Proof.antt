@@ -1,6 +1,7 @@
 -- `cal_abort`: each way out is its case of the rule.
 -- Assumes nothing.
 use borrow.Author.Needs.{needs}
+use Rattle.draft.specs.DraftLaws.{emitting}
 use Rattle.rules.proofs.calibration.cal_abort.Statement.{statement}
 use Rattle.rules.proofs.calibration.cal_abort.Tie as tie
 
@@ -11,9 +12,10 @@ cal-abort-spec =
     (λ c κs. search needs)
     (λ c κs. search needs)
     (λ c κs. search needs)
-    (λ c. simp (c .before .if1 .taken, ← c .before .before .in-mode2 .ensures, ← c .before .before .before .in-mode .ensures) (c .records-0 .ensures))
+    (λ c. simp (c .before .if1 .taken, ← c .before .before .in-mode2 .ensures, ← c .before .before .before .in-mode .ensures) (c .refused .ensures))
     (λ c κs. search needs)
     (λ c κs. search needs)
-    (λ c. simp (c .before .if2 .taken, ← c .before .before .lci-is .ensures, c .before .before .before .if1 .left, ← c .before .before .before .before .in-mode2 .ensures, ← c .before .before .before .before .before .in-mode .ensures) (c .records-2 .ensures))
     (λ c κs. search needs)
-    (λ c. simp (c .before .if2 .left, ← c .before .before .lci-is .ensures, c .before .before .before .if1 .left, ← c .before .before .before .before .in-mode2 .ensures, ← c .before .before .before .before .before .in-mode .ensures) (c .records-22 .ensures)))
+    (λ c κs. search needs)
+    (λ c κs. search needs)
+    (λ c. simp (c .before .before .before .before .before .if1 .left, ← c .before .before .before .before .before .before .in-mode2 .ensures, ← c .before .before .before .before .before .before .before .in-mode .ensures) (simp (c .done .ensures, c .before .emit2 .ensures, c .before .before .cal-aborted .ensures, c .before .before .before .emit .ensures, c .before .before .before .before .blank .ensures, emitting))))

@@ -1,6 +1,7 @@
 -- `cal_complete`: each way out is its case of the rule.
 -- Assumes nothing.
 use borrow.Author.Needs.{needs}
+use Rattle.draft.specs.DraftLaws.{emitting}
 use Rattle.rules.proofs.calibration.cal_complete.Statement.{statement}
 use Rattle.rules.proofs.calibration.cal_complete.Tie as tie
 
@@ -10,6 +11,8 @@ cal-complete-spec =
     (tie.spec
     (λ c κs. search needs)
     (λ c κs. search needs)
-    (λ c. simp (c .before .if1 .taken, ← c .before .before .in-mode .ensures) (c .records-3 .ensures))
     (λ c κs. search needs)
-    (λ c. simp (c .before .if1 .left, ← c .before .before .in-mode .ensures) (c .records-2 .ensures)))
+    (λ c κs. search needs)
+    (λ c κs. search needs)
+    (λ c κs. search needs)
+    (λ c. simp (← c .before .before .in-mode .ensures) (simp (c .done .ensures, c .before .emit-if .ensures, c .before .before .before .emit2 .ensures, c .before .before .before .before .emit .ensures, c .before .before .before .before .before .blank .ensures, emitting))))

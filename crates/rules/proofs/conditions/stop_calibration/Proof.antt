@@ -1,6 +1,7 @@
 -- `stop_calibration`: the calibration, if it runs.
 -- Assumes nothing.
 use borrow.Author.Needs.{needs}
+use Rattle.draft.specs.DraftLaws.{emitting}
 use Rattle.rules.proofs.conditions.stop_calibration.Statement.{statement}
 use Rattle.rules.proofs.conditions.stop_calibration.Tie as tie
 
@@ -11,5 +12,5 @@ stop-calibration-spec =
     (λ c κs. search needs)
     (λ c κs. search needs)
     (λ c κs. search needs)
-    (λ c. simp (← c .before .emit .ensures, c .before .before .if1 .taken, ← c .before .before .before .lci-is .ensures) (c .emit2 .ensures))
-    (λ c. simp (c .if1 .left, ← c .before .lci-is .ensures)))
+    (λ c. simp (c .before .before .if1 .taken, ← c .before .before .before .lci-is .ensures) (simp (c .emit2 .ensures, c .before .emit .ensures, emitting)))
+    (λ c. simp (c .if1 .left, ← c .before .lci-is .ensures, emitting)))

@@ -1,7 +1,7 @@
--- `hold_enter`: the sections one after the other, or the refusal.
+-- `hold_enter`: each way out is its case of the rule.
 -- Assumes nothing.
 use borrow.Author.Needs.{needs}
-use Rattle.rules.proofs.Drafts.{single-taken, hold-sections}
+use Rattle.draft.specs.DraftLaws.{emitting}
 use Rattle.rules.proofs.instrument.hold_enter.Statement.{statement}
 use Rattle.rules.proofs.instrument.hold_enter.Tie as tie
 
@@ -14,23 +14,11 @@ hold-enter-spec =
     (λ c κs. search needs)
     (λ c κs. search needs)
     (λ c κs. search needs)
-    (λ c. simp (c .before .if1 .taken, ← c .before .before .in-mode4 .ensures, ← c .before .before .before .in-mode3 .ensures, ← c .before .before .before .before .in-mode2 .ensures, ← c .before .before .before .before .before .in-mode .ensures) (c .records-0 .ensures))
+    (λ c. simp (c .before .if1 .taken, ← c .before .before .in-mode4 .ensures, ← c .before .before .before .in-mode3 .ensures, ← c .before .before .before .before .in-mode2 .ensures, ← c .before .before .before .before .before .in-mode .ensures) (c .refused .ensures))
     (λ c κs. search needs)
     (λ c κs. search needs)
     (λ c κs. search needs)
     (λ c κs. search needs)
     (λ c κs. search needs)
-    (λ c. single-taken _ _ _ _ _ _
-    (simp (
-      c .before .before .before .before .before .before .before .before .before .in-mode .ensures,
-      c .before .before .before .before .before .before .before .before .in-mode2 .ensures,
-      c .before .before .before .before .before .before .before .in-mode3 .ensures,
-      c .before .before .before .before .before .before .in-mode4 .ensures,
-    )
-    at (c .before .before .before .before .before .if1 .left))
-    (hold-sections (c .before .before .before .before .before .before .before .before .before .before .args .s) _ _ _ _ _
-    (c .before .before .before .before .blank .ensures)
-    (c .before .before .before .stop-calibration .ensures)
-    (c .before .before .stop-physics .ensures)
-    (c .before .end-too .ensures)
-    (c .emit .ensures))))
+    (λ c κs. search needs)
+    (λ c. simp (simp (c .before .before .before .before .before .before .before .in-mode4 .ensures, c .before .before .before .before .before .before .before .before .in-mode3 .ensures, c .before .before .before .before .before .before .before .before .before .in-mode2 .ensures, c .before .before .before .before .before .before .before .before .before .before .in-mode .ensures) at (c .before .before .before .before .before .before .if1 .left)) (simp (c .done .ensures, c .before .emit .ensures, c .before .before .end-too .ensures, c .before .before .before .stop-physics .ensures, c .before .before .before .before .stop-calibration .ensures, c .before .before .before .before .before .blank .ensures, emitting))))

@@ -1,6 +1,7 @@
 -- `hold_exit`: each way out is its case of the rule.
 -- Assumes nothing.
 use borrow.Author.Needs.{needs}
+use Rattle.draft.specs.DraftLaws.{emitting}
 use Rattle.rules.proofs.instrument.hold_exit.Statement.{statement}
 use Rattle.rules.proofs.instrument.hold_exit.Tie as tie
 
@@ -10,6 +11,8 @@ hold-exit-spec =
     (tie.spec
     (λ c κs. search needs)
     (λ c κs. search needs)
-    (λ c. simp (c .before .if1 .taken, ← c .before .before .in-mode .ensures) (c .records-0 .ensures))
+    (λ c. simp (c .before .if1 .taken, ← c .before .before .in-mode .ensures) (c .refused .ensures))
     (λ c κs. search needs)
-    (λ c. simp (c .before .if1 .left, ← c .before .before .in-mode .ensures) (c .records-1 .ensures)))
+    (λ c κs. search needs)
+    (λ c κs. search needs)
+    (λ c. simp (c .before .before .before .if1 .left, ← c .before .before .before .before .in-mode .ensures) (simp (c .done .ensures, c .before .emit .ensures, c .before .before .blank .ensures, emitting))))

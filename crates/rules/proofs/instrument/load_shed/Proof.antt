@@ -1,7 +1,7 @@
--- `load_shed`: the sections one after the other.
+-- `load_shed`: each way out is its case of the rule.
 -- Assumes nothing.
 use borrow.Author.Needs.{needs}
-use Rattle.rules.proofs.Drafts.{shed-sections}
+use Rattle.draft.specs.DraftLaws.{emitting}
 use Rattle.rules.proofs.instrument.load_shed.Statement.{statement}
 use Rattle.rules.proofs.instrument.load_shed.Tie as tie
 
@@ -14,4 +14,5 @@ load-shed-spec =
     (λ c κs. search needs)
     (λ c κs. search needs)
     (λ c κs. search needs)
-    (λ c. shed-sections _ _ _ _ _ _ (c .before .before .before .before .blank .ensures) (c .before .before .before .emit .ensures) (c .before .before .stop-calibration .ensures) (c .before .stop-physics .ensures) (c .shed .ensures)))
+    (λ c κs. search needs)
+    (λ c. simp (c .done .ensures, c .before .shed .ensures, c .before .before .stop-physics .ensures, c .before .before .before .stop-calibration .ensures, c .before .before .before .before .emit .ensures, c .before .before .before .before .before .blank .ensures, emitting)))

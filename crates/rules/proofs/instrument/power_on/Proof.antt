@@ -2,6 +2,7 @@
 -- Assumes nothing.
 use borrow.Author.Needs.{needs}
 use borrow.Author.Tests.{ne-eqb}
+use Rattle.draft.specs.DraftLaws.{emitting}
 use Rattle.rules.proofs.instrument.power_on.Statement.{statement}
 use Rattle.rules.proofs.instrument.power_on.Tie as tie
 
@@ -11,9 +12,12 @@ power-on-spec =
     (tie.spec
     (λ c κs. search needs)
     (λ c κs. search needs)
-    (λ c. simp (c .before .if1 .taken, ← c .before .before .in-mode .ensures) (c .records-0 .ensures))
+    (λ c. simp (c .before .if1 .taken, ← c .before .before .in-mode .ensures) (c .refused .ensures))
     (λ c κs. search needs)
-    (λ c. simp (c .before .if2 .taken, c .before .before .if1 .left, ← c .before .before .before .in-mode .ensures) (c .records-02 .ensures))
+    (λ c. simp (c .before .if2 .taken, c .before .before .if1 .left, ← c .before .before .before .in-mode .ensures) (c .refused2 .ensures))
     (λ c κs. search needs)
     (λ c κs. search needs)
-    (λ c. simp (← c .before .configured .ensures, ne-eqb _ _ (c .before .before .if2 .left), c .before .before .before .if1 .left, ← c .before .before .before .before .in-mode .ensures) (c .records-2 .ensures)))
+    (λ c κs. search needs)
+    (λ c κs. search needs)
+    (λ c κs. search needs)
+    (λ c. simp (ne-eqb _ _ (c .before .before .before .before .before .if2 .left), c .before .before .before .before .before .before .if1 .left, ← c .before .before .before .before .before .before .before .in-mode .ensures) (simp (c .done .ensures, c .before .emit2 .ensures, c .before .before .configured .ensures, c .before .before .before .emit .ensures, c .before .before .before .before .blank .ensures, emitting))))

@@ -1,6 +1,7 @@
 -- `saa_enter`: each way out is its case of the rule.
 -- Assumes nothing.
 use borrow.Author.Needs.{needs}
+use Rattle.draft.specs.DraftLaws.{emitting}
 use Rattle.rules.proofs.instrument.saa_enter.Statement.{statement}
 use Rattle.rules.proofs.instrument.saa_enter.Tie as tie
 
@@ -11,11 +12,9 @@ saa-enter-spec =
     (λ c κs. search needs)
     (λ c κs. search needs)
     (λ c κs. search needs)
-    (λ c. simp (c .before .if2 .taken, ← c .before .before .in-mode .ensures, c .before .before .before .if1 .taken, ← c .before .before .before .before .lpa-is .ensures) (c .records-4 .ensures))
-    (λ c κs. search needs)
-    (λ c. simp (c .before .if2 .left, ← c .before .before .in-mode .ensures, c .before .before .before .if1 .taken, ← c .before .before .before .before .lpa-is .ensures) (c .records-5 .ensures))
     (λ c κs. search needs)
     (λ c κs. search needs)
-    (λ c. simp (c .before .if3 .taken, ← c .before .before .in-mode2 .ensures, c .before .before .before .if1 .left, ← c .before .before .before .before .lpa-is .ensures) (c .records-1 .ensures))
     (λ c κs. search needs)
-    (λ c. simp (c .before .if3 .left, ← c .before .before .in-mode2 .ensures, c .before .before .before .if1 .left, ← c .before .before .before .before .lpa-is .ensures) (c .records-2 .ensures)))
+    (λ c κs. search needs)
+    (λ c κs. search needs)
+    (λ c. simp (← c .before .before .in-mode .ensures, ← c .before .before .before .before .lpa-is .ensures) (simp (c .done .ensures, c .before .emit-if2 .ensures, c .before .before .before .emit-if .ensures, c .before .before .before .before .before .stop-physics .ensures, c .before .before .before .before .before .before .emit .ensures, c .before .before .before .before .before .before .before .blank .ensures, ← c .before .before .before .before .lpa-is .ensures, emitting))))

@@ -1,6 +1,7 @@
 -- `shed`: the six records, one after the other.
 -- Assumes nothing.
 use borrow.Author.Needs.{needs}
+use Rattle.draft.specs.DraftLaws.{emitting}
 use Rattle.rules.proofs.instrument.shed.Statement.{statement}
 use Rattle.rules.proofs.instrument.shed.Tie as tie
 
@@ -14,4 +15,4 @@ shed-spec =
     (λ c κs. search needs)
     (λ c κs. search needs)
     (λ c κs. search needs)
-    (λ c. simp (← c .before .emit5 .ensures, ← c .before .before .emit4 .ensures, ← c .before .before .before .emit3 .ensures, ← c .before .before .before .before .emit2 .ensures, ← c .before .before .before .before .before .emit .ensures) (c .emit6 .ensures)))
+    (λ c. simp (c .emit6 .ensures, c .before .emit5 .ensures, c .before .before .emit4 .ensures, c .before .before .before .emit3 .ensures, c .before .before .before .before .emit2 .ensures, c .before .before .before .before .before .emit .ensures, emitting)))

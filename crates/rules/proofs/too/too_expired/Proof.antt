@@ -1,6 +1,7 @@
 -- `too_expired`: each way out is its case of the rule.
 -- Assumes nothing.
 use borrow.Author.Needs.{needs}
+use Rattle.draft.specs.DraftLaws.{emitting}
 use Rattle.rules.proofs.too.too_expired.Statement.{statement}
 use Rattle.rules.proofs.too.too_expired.Tie as tie
 
@@ -10,6 +11,8 @@ too-expired-spec =
     (tie.spec
     (λ c κs. search needs)
     (λ c κs. search needs)
-    (λ c. simp (c .before .if1 .taken, ← c .before .before .before .in-mode .ensures) (c .records-0 .ensures))
+    (λ c. simp (c .before .if1 .taken, ← c .before .before .before .in-mode .ensures) (c .refused .ensures))
     (λ c κs. search needs)
-    (λ c. simp (c .before .if1 .left, ← c .before .before .before .in-mode .ensures) (c .left .ensures)))
+    (λ c κs. search needs)
+    (λ c κs. search needs)
+    (λ c. simp (c .before .before .before .if1 .left, ← c .before .before .before .before .before .in-mode .ensures) (simp (c .done .ensures, c .before .leave-too .ensures, c .before .before .blank .ensures, emitting))))

@@ -1,6 +1,7 @@
 -- `too_start`: each way out is its case of the rule.
 -- Assumes nothing.
 use borrow.Author.Needs.{needs}
+use Rattle.draft.specs.DraftLaws.{emitting}
 use Rattle.rules.proofs.too.too_start.Statement.{statement}
 use Rattle.rules.proofs.too.too_start.Tie as tie
 
@@ -12,11 +13,16 @@ too-start-spec =
     (λ c κs. search needs)
     (λ c κs. search needs)
     (λ c κs. search needs)
-    (λ c. simp (← c .before .before .in-mode3 .ensures, ← c .before .before .before .in-mode2 .ensures, ← c .before .before .before .before .in-mode .ensures, c .before .if1 .taken) (c .records-0 .ensures))
+    (λ c. simp (c .before .if1 .taken, ← c .before .before .in-mode3 .ensures, ← c .before .before .before .in-mode2 .ensures, ← c .before .before .before .before .in-mode .ensures) (c .refused .ensures))
     (λ c κs. search needs)
-    (λ c. simp (← c .before .before .before .in-mode3 .ensures, ← c .before .before .before .before .in-mode2 .ensures, ← c .before .before .before .before .before .in-mode .ensures, c .before .before .if1 .left) (simp (c .before .if2 .taken) (c .records-02 .ensures)))
+    (λ c. simp (c .before .before .if1 .left, ← c .before .before .before .in-mode3 .ensures, ← c .before .before .before .before .in-mode2 .ensures, ← c .before .before .before .before .before .in-mode .ensures) (simp (c .before .if2 .taken) (c .refused2 .ensures)))
     (λ c κs. search needs)
     (λ c κs. search needs)
-    (λ c. simp (← c .before .before .dwell-in-range .ensures, ← c .before .before .before .before .before .in-mode3 .ensures, ← c .before .before .before .before .before .before .in-mode2 .ensures, ← c .before .before .before .before .before .before .before .in-mode .ensures, c .before .before .before .before .if1 .left) (simp (c .before .before .before .if2 .left) (simp (c .before .if3 .taken) (c .records-03 .ensures))))
+    (λ c. simp (c .before .if3 .taken, ← c .before .before .dwell-in-range .ensures, c .before .before .before .before .if1 .left, ← c .before .before .before .before .before .in-mode3 .ensures, ← c .before .before .before .before .before .before .in-mode2 .ensures, ← c .before .before .before .before .before .before .before .in-mode .ensures) (simp (c .before .before .before .if2 .left) (c .refused3 .ensures)))
     (λ c κs. search needs)
-    (λ c. simp (← c .before .before .dwell-in-range .ensures, ← c .before .before .before .before .before .in-mode3 .ensures, ← c .before .before .before .before .before .before .in-mode2 .ensures, ← c .before .before .before .before .before .before .before .in-mode .ensures, c .before .before .before .before .if1 .left) (simp (c .before .before .before .if2 .left) (simp (c .before .if3 .left) (c .begun .ensures)))))
+    (λ c κs. search needs)
+    (λ c κs. search needs)
+    (λ c κs. search needs)
+    (λ c κs. search needs)
+    (λ c κs. search needs)
+    (λ c. simp (c .before .before .before .before .before .before .if3 .left, ← c .before .before .before .before .before .before .before .dwell-in-range .ensures, c .before .before .before .before .before .before .before .before .before .if1 .left, ← c .before .before .before .before .before .before .before .before .before .before .in-mode3 .ensures, ← c .before .before .before .before .before .before .before .before .before .before .before .in-mode2 .ensures, ← c .before .before .before .before .before .before .before .before .before .before .before .before .in-mode .ensures) (simp (c .before .before .before .before .before .before .before .before .if2 .left) (simp (c .done .ensures, c .before .sent .ensures, c .before .before .emit2 .ensures, c .before .before .before .too-starting .ensures, c .before .before .before .before .emit .ensures, c .before .before .before .before .before .blank .ensures, emitting)))))
