@@ -9,7 +9,7 @@ use native.Mathlib.Omega.{arith}
 use borrow.Author.Tests.{leb-true, le-leb, eq-eqb, not-true}
 use lib.Dec.{leb}
 use Rattle.kinds.specs.Choice.{if_then_else_, _⇒_, every, some}
-use Rattle.kinds.specs.ChoiceLaws.{and-left, and-right, chosen, chosen-either, every-append, every-if, if-same, every-none}
+use Rattle.kinds.specs.ChoiceLaws.{and-left, and-right, chosen, chosen-either, every-none, every-pushed}
 use Rattle.kinds.specs.Kinds.{statusNumber, statusIs, refusalPlace, isRefusal}
 use Rattle.kinds.specs.declared.status.Status.{Status}
 use Rattle.state.specs.declared.State.{State}
@@ -101,11 +101,6 @@ module _ (done : Verdict) where
 pub unmet-as : (xs : List (Status × Bool)) (status : Status) → every unmet xs ≡ true → some (metAs status) xs ≡ false
 unmet-as xs status free =
     every-none unmet (metAs status) (λ x free. rw (not-true (x .1) free) (and-false (statusIs (x .0) status))) xs free
-
--- a test of each, pushed through what joins lists and what chooses between them; where both choices pass, no choice is left
-pub ruleset every-through = (every-append, every-if)
-
-pub ruleset every-pushed = (every-through, if-same)
 
 -- Each rule in any state -----------------------------------------------------------------------------------------------------
 

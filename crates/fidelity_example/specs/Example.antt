@@ -18,7 +18,7 @@ use Rattle.layout.specs.Block.{BLOCK, headOf, intact, headBytes, checkedBytes, 
 use Rattle.layout.specs.Event.{eventPartsAt, readEvent}
 use Rattle.layout.specs.Record.{recordPartsAt, readRecord, recordPartsBytes, recordBytes}
 use Rattle.layout.specs.Zeros.{allZero, zerosBetween}
-use Rattle.draft.specs.Draft.{blank, emitted}
+use Rattle.draft.specs.Draft.{blank, emitted, emits}
 use Rattle.rules.specs.Rules.{ruleOf, unheard, verdictOf}
 use Rattle.rules.specs.Ruling.{rulingOf}
 use Rattle.manager.specs.Log.{logSound}
@@ -63,7 +63,7 @@ display g (b ∷ bs) = shown (readOf g b) (λ g′. display g′ bs)
 
 -- what is to be computed through: all of the manager, the layouts, the rules that these events meet, and the reader
 computed : ℕ
-unfolding checkOf taps feedBit feedBits feed rebooted sound shapeSound calibrationSound physicsSound tooSound bootSound effect eventOf partsOfEvent partsOfRecord recordOf u16At u32At two four headOf intact headBytes checkedBytes blockBytes eventPartsAt readEvent recordPartsAt readRecord recordPartsBytes recordBytes allZero zerosBetween blank emitted ruleOf unheard verdictOf rulingOf logSound bothSound stepOf flushOf closed taken reads contentOf readerSound readOf runOf
+unfolding checkOf taps feedBit feedBits feed rebooted sound shapeSound calibrationSound physicsSound tooSound bootSound effect eventOf partsOfEvent partsOfRecord recordOf u16At u32At two four headOf intact headBytes checkedBytes blockBytes eventPartsAt readEvent recordPartsAt readRecord recordPartsBytes recordBytes allZero zerosBetween blank emitted emits ruleOf unheard verdictOf rulingOf logSound bothSound stepOf flushOf closed taken reads contentOf readerSound readOf runOf
 computed = 0
 
 displayed : display (freshReader 7) (down (runOf 7 asked .blocks) (runOf 8 (take 2 asked) .blocks))

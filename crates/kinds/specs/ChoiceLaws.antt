@@ -51,6 +51,11 @@ module _ {A : Type 0} (test : A → Bool) where
   pub every-both : (xs ys : List A) → every test xs ≡ true → every test ys ≡ true → every test (xs ++ ys) ≡ true
   every-both xs ys all more = rw (every-append xs ys, all, more)
 
+-- a test of each, pushed through what joins lists and what chooses between them; where both choices pass, no choice is left
+pub ruleset every-through = (every-append, every-if)
+
+pub ruleset every-pushed = (every-through, if-same)
+
 -- where each passes one test, none passes another that goes against it
 pub every-none : {A : Type 0} (test against : A → Bool) → ((x : A) → test x ≡ true → against x ≡ false)
     → (xs : List A) → every test xs ≡ true → some against xs ≡ false
