@@ -15,11 +15,11 @@ use borrow.Author.Tests.{leb-true, leb-false}
 use lib.ListN.{length, length-append}
 use lib.Seq.{append-snoc}
 use lib.Dec.{leb}
+use Rattle.kinds.specs.ChoiceLaws.{chosen-either}
 use Rattle.state.specs.State.{fresh}
 use Rattle.state.specs.declared.State.{State}
 use Rattle.layout.specs.Block.{intact, headOf}
 use Rattle.layout.specs.BlockLaws.{intact-length, intact-check, intact-other-length, intact-wrong-check}
-use Rattle.reader.specs.ContentLaws.{picked}
 use Rattle.reader.specs.Reader.{readerSound, answered, raised, ahead, onward, inTurn, readOf}
 use Rattle.reader.specs.ReaderLaws.{read-damaged, read-other-log, read-already, read-gap, read-in-turn, read-sound}
 use Rattle.reader.specs.declared.reply.Reply.{Reply}
@@ -44,7 +44,7 @@ pub record Followed (number : ℕ) (states : List State) (blocks : List (List �
 -- what is heard of, with one block more
 raised-most : (heard block : ℕ) → (heard ≤ raised heard block) × (block < raised heard block)
 raised-most heard block =
-    picked (λ (n : ℕ). (heard ≤ n) × (block < n)) (leb heard block) (block + 1) heard
+    chosen-either (λ (n : ℕ). (heard ≤ n) × (block < n)) (leb heard block) (block + 1) heard
     (λ low. let fact : heard ≤ block = leb-true heard block low in (omega arith, omega arith))
     (λ high. let fact : block < heard = leb-false heard block high in (omega arith, omega arith))
 
@@ -157,7 +157,7 @@ module _ (number : ℕ) (states : List State) (blocks : List (List ℕ)) (end : 
 
       behind : Behind (raised (w .reader .heard) (headOf b .block))
       behind =
-          picked Behind (leb (w .reader .heard) (headOf b .block)) (headOf b .block + 1) (w .reader .heard)
+          chosen-either Behind (leb (w .reader .heard) (headOf b .block)) (headOf b .block + 1) (w .reader .heard)
           (λ _ _. (b, m, met-last, refl))
           (λ _ h. let (c, n, n′, e) = f .low h in (c, n, met-more c n′, e))
 
@@ -227,7 +227,7 @@ module _ (number : ℕ) (states : List State) (blocks : List (List ℕ)) (end : 
 
       behind : Behind heard
       behind =
-          picked Behind (leb (w .reader .heard) (w .reader .next)) (w .reader .next + 1) (w .reader .heard)
+          chosen-either Behind (leb (w .reader .heard) (w .reader .next)) (w .reader .next + 1) (w .reader .heard)
           (λ _ h. absurd (omega arith))
           (λ _ h. let (c, n, n′, last) = f .low (omega arith) in (c, still c (omega arith) n, met-more c n′, last))
 

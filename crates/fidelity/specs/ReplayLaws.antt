@@ -10,7 +10,7 @@ use borrow.Author.Tests.{eqb-true, eq-eqb, lt-leb, not-true, ltb-true}
 use lib.ListN.{length, length-append}
 use lib.Dec.{eqb}
 use Rattle.kinds.specs.Choice.{every}
-use Rattle.kinds.specs.ChoiceLaws.{and-left, and-right}
+use Rattle.kinds.specs.ChoiceLaws.{and-left, and-right, chosen-either}
 use Rattle.state.specs.State.{sound}
 use Rattle.state.specs.Effect.{effect, effects}
 use Rattle.state.specs.EffectLaws.{effect-count}
@@ -22,7 +22,6 @@ use Rattle.records.specs.declared.Reading.{Reading}
 use Rattle.layout.specs.Record.{recordBytes, recordsBytes}
 use Rattle.layout.specs.RecordLaws.{record-read, record-bytes-length}
 use Rattle.reader.specs.Content.{closed, taken, followed, place, reads}
-use Rattle.reader.specs.ContentLaws.{picked}
 use Rattle.reader.specs.declared.content.Content.{Content}
 use Rattle.reader.specs.declared.content.Fault.{Fault}
 use Rattle.reader.specs.declared.content.Went.{Went}
@@ -34,7 +33,7 @@ wrong-right at fault s e = let z : _≡_ {A = ℕ} 0 1 = cc in omega arith
 -- nothing is left: no event is open, and the state is the one reached
 replay-end : (k : ℕ) (s t : State) → replay k s [] ≡ Content.Right t → (k ≡ 0) × (s ≡ t)
 replay-end k s t =
-    picked (λ (c : Content). c ≡ Content.Right t → (k ≡ 0) × (s ≡ t)) (eqb k 0) (Content.Right s) (Content.Wrong 0 Fault.Open)
+    chosen-either (λ (c : Content). c ≡ Content.Right t → (k ≡ 0) × (s ≡ t)) (eqb k 0) (Content.Right s) (Content.Wrong 0 Fault.Open)
     (λ none right. (eqb-true k 0 none, cc))
     (λ _ wrong. absurd (wrong-right 0 Fault.Open t wrong))
 

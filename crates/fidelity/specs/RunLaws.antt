@@ -11,6 +11,7 @@ use native.Mathlib.Omega.{arith}
 use borrow.Author.Tests.{leb-true, leb-false, eqb-false, ne-eqb, not-false}
 use lib.ListN.{length, length-append}
 use lib.Dec.{eqb, leb}
+use Rattle.kinds.specs.ChoiceLaws.{chosen-either}
 use Rattle.kinds.specs.Kinds.{LAST-NUMBER}
 use Rattle.kinds.specs.Choice.{if_then_else_}
 use Rattle.state.specs.State.{fresh, rebooted}
@@ -30,7 +31,6 @@ use Rattle.rules.specs.Ruling.{rulingOf}
 use Rattle.manager.specs.Log.{blankArea, fits, areaWith, headWith, headNext}
 use Rattle.manager.specs.Manager.{freshHead, bothSound, Outcome, kept, added, turned, logged, heardEvent, stepOf, flushed, flushOf, stepped, flushedOf}
 use Rattle.manager.specs.LogLaws.{Clauses, state-sound, log-clauses, used-before}
-use Rattle.reader.specs.ContentLaws.{picked}
 use Rattle.fidelity.specs.Pass.{Operation, stepping, flushing, EventBytes, Run, freshRun, afterStep, afterFlush, afterAll, runOf, At}
 use Rattle.fidelity.specs.Interface.{whole, Ruled, ruled}
 use Rattle.fidelity.specs.Chain.{Link, Chain}
@@ -154,9 +154,9 @@ module _ (number : ℕ) (small : number < 2 ^ 32) (r : Run) (k : Kept number r) 
   kept-flush : (lent : List ℕ) → Kept number (afterFlush r (flushedOf (r .manager) lent))
   unfolding flushOf
   kept-flush lent =
-      picked P (not (lentWhole lent)) (kept (now r) (head r) (area r) lent Answer.BadBuf) unsound (λ _. k)
-      (λ _. picked P (not (bothSound (now r) (head r) (area r))) (kept (now r) (head r) (area r) lent Answer.BadState) empty (λ _. k)
-      (λ own. picked P (eqb (head r .used) 0) (kept (now r) (head r) (area r) lent Answer.Empty) (flushed (now r) (head r) (area r) lent) (λ _. k)
+      chosen-either P (not (lentWhole lent)) (kept (now r) (head r) (area r) lent Answer.BadBuf) unsound (λ _. k)
+      (λ _. chosen-either P (not (bothSound (now r) (head r) (area r))) (kept (now r) (head r) (area r) lent Answer.BadState) empty (λ _. k)
+      (λ own. chosen-either P (eqb (head r .used) 0) (kept (now r) (head r) (area r) lent Answer.Empty) (flushed (now r) (head r) (area r) lent) (λ _. k)
       (λ some. kept-closed (log-clauses (now r) (head r) (area r) (not-false (bothSound (now r) (head r) (area r)) own)) (eqb-false (head r .used) 0 some))))
     where
       P : Outcome → Type 0
@@ -174,7 +174,7 @@ module _ (number : ℕ) (small : number < 2 ^ 32) (r : Run) (k : Kept number r) 
   kept-logged : (lent : List ℕ) (e : Event) → Clauses (now r) (head r) (area r) → Ruled (now r) (rulingOf (now r) e .draft)
       → now r .count < LAST-NUMBER → Kept number (afterStep r (logged (now r) (head r) (area r) lent (rulingOf (now r) e)))
   kept-logged lent e t ruling below =
-      picked (λ (o : Outcome). Kept number (afterStep r o)) (fits (head r) draft) (added (now r) (head r) (area r) lent (rulingOf (now r) e))
+      chosen-either (λ (o : Outcome). Kept number (afterStep r o)) (fits (head r) draft) (added (now r) (head r) (area r) lent (rulingOf (now r) e))
       (turned (now r) (head r) (area r) lent (rulingOf (now r) e))
       (λ room. kept-added number small r k draft (headWith (head r) draft) ruling below (leb-true (head r .used + draft .count) USED-MOST room) refl refl refl refl)
       (λ full. kept-turned (leb-false (head r .used + draft .count) USED-MOST full))
@@ -201,8 +201,8 @@ module _ (number : ℕ) (small : number < 2 ^ 32) (r : Run) (k : Kept number r) 
       → Kept number (afterStep r (heardEvent (now r) (head r) (area r) lent found))
   kept-heard event lent bytes FoundEvent.Unknown read = k
   kept-heard event lent bytes (FoundEvent.Found e) read =
-      picked P (not (bothSound (now r) (head r) (area r))) (kept (now r) (head r) (area r) lent Answer.BadState) sounded (λ _. k)
-      (λ own. picked P (eqb (now r .count) LAST-NUMBER) (kept (now r) (head r) (area r) lent Answer.Full) ruling (λ _. k)
+      chosen-either P (not (bothSound (now r) (head r) (area r))) (kept (now r) (head r) (area r) lent Answer.BadState) sounded (λ _. k)
+      (λ own. chosen-either P (eqb (now r .count) LAST-NUMBER) (kept (now r) (head r) (area r) lent Answer.Full) ruling (λ _. k)
       (λ below. taken (not-false (bothSound (now r) (head r) (area r)) own)
       (eqb-false (now r .count) LAST-NUMBER below)))
     where
@@ -225,7 +225,7 @@ module _ (number : ℕ) (small : number < 2 ^ 32) (r : Run) (k : Kept number r) 
   kept-step : (event lent : List ℕ) → AreBytes event → Kept number (afterStep r (stepped (r .manager) event lent))
   unfolding stepOf
   kept-step event lent bytes =
-      picked (λ (o : Outcome). Kept number (afterStep r o)) (not (lentWhole lent)) (kept (now r) (head r) (area r) lent Answer.BadBuf)
+      chosen-either (λ (o : Outcome). Kept number (afterStep r o)) (not (lentWhole lent)) (kept (now r) (head r) (area r) lent Answer.BadBuf)
       (heardEvent (now r) (head r) (area r) lent (readEvent event))
       (λ _. k)
       (λ _. kept-heard event lent bytes (readEvent event) refl)

@@ -12,7 +12,7 @@ use Rattle.kinds.specs.declared.status.Status.{Status}
 use Rattle.state.specs.declared.State.{State}
 use Rattle.records.specs.declared.Record.{Record}
 
--- the refusals with their conditions, in the order of their numbers; else the status and the records, but for the closing STATUS
+-- the refusals with their conditions, in the order in which they are looked for (`refusalOrder`); else the status and the records, but for the closing STATUS
 pub record Rule : Type 0 where
   pub refusals : List (Status × Bool)
   pub status : Status
