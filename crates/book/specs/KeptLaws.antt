@@ -1,4 +1,4 @@
--- State, the law of the book: what an event's records do to a sound state leaves its shape sound, and leaves room for the STATUS. Each event is
+-- State, the law of the book: an event's records leave the shape of a sound state sound, and leave room for the STATUS. Each event is
 -- tried in all outlines, once for all.
 -- Assumes nothing.
 use Prim.Native.Nat.{ℕ, _<_}
@@ -28,6 +28,17 @@ use Rattle.book.specs.OutlineLaws.{outline-shape, outline-every}
 
 abbrev Tried : State → Event → Type 0
 Tried s e = everyOutline (passes s e) s ≡ true
+
+-- the rule of a report reads whether the start is awaited: that is tried both ways, and so is the report
+abbrev bothWays : (State → Bool → State) → (Bool → Event) → State → Bool
+bothWays put report s = every (λ awaited. every (λ good. everyOutline (passes (put s awaited) (report good)) (put s awaited)) flags) flags
+
+both-ways : (put : State → Bool → State) (report : Bool → Event) (s : State) (awaited good : Bool)
+    → bothWays put report s ≡ true → Tried (put s awaited) (report good)
+both-ways put report s awaited good all =
+    flag-every (λ g. everyOutline (passes (put s awaited) (report g)) (put s awaited))
+    (flag-every (λ x. every (λ g. everyOutline (passes (put s x) (report g)) (put s x)) flags) all awaited)
+    good
 
 -- One test an event, so that none is dear, and a wrong rule is named -----------------------------------------------------------
 
@@ -107,8 +118,7 @@ too-expired-tried : (s : State) (armed : ℕ) → Tried s (Event.TooExpired arme
 unfolding everyOutline passes
 too-expired-tried s armed = refl
 
--- a report's rule reads whether a start is awaited: that is tried both ways
-cal-status-tried : (s : State) → every (λ awaited. every (λ good. everyOutline (passes (withLciAwaited s awaited) (Event.CalStatus good)) (withLciAwaited s awaited)) flags) flags ≡ true
+cal-status-tried : (s : State) → bothWays withLciAwaited Event.CalStatus s ≡ true
 unfolding everyOutline passes
 cal-status-tried s = refl
 
@@ -116,7 +126,7 @@ cal-complete-tried : (s : State) → Tried s Event.CalComplete
 unfolding everyOutline passes
 cal-complete-tried s = refl
 
-lpa-status-tried : (s : State) → every (λ awaited. every (λ good. everyOutline (passes (withLpaAwaited s awaited) (Event.LpaStatus good)) (withLpaAwaited s awaited)) flags) flags ≡ true
+lpa-status-tried : (s : State) → bothWays withLpaAwaited Event.LpaStatus s ≡ true
 unfolding everyOutline passes
 lpa-status-tried s = refl
 
@@ -144,15 +154,9 @@ tried s Event.LpaOther = lpa-other-tried s
 tried s (Event.TooStart run dwell) = too-start-tried s run dwell
 tried s Event.TooAbort = too-abort-tried s
 tried s (Event.TooExpired armed) = too-expired-tried s armed
-tried s (Event.CalStatus good) =
-    flag-every (λ g. everyOutline (passes s (Event.CalStatus g)) s)
-    (flag-every (λ x. every (λ g. everyOutline (passes (withLciAwaited s x) (Event.CalStatus g)) (withLciAwaited s x)) flags) (cal-status-tried s) (s .«lci_awaited»))
-    good
+tried s (Event.CalStatus good) = both-ways withLciAwaited Event.CalStatus s (s .«lci_awaited») good (cal-status-tried s)
 tried s Event.CalComplete = cal-complete-tried s
-tried s (Event.LpaStatus good) =
-    flag-every (λ g. everyOutline (passes s (Event.LpaStatus g)) s)
-    (flag-every (λ x. every (λ g. everyOutline (passes (withLpaAwaited s x) (Event.LpaStatus g)) (withLpaAwaited s x)) flags) (lpa-status-tried s) (s .«lpa_awaited»))
-    good
+tried s (Event.LpaStatus good) = both-ways withLpaAwaited Event.LpaStatus s (s .«lpa_awaited») good (lpa-status-tried s)
 tried s Event.LpaComplete = lpa-complete-tried s
 
 -- what passes and is not refused keeps the shape

@@ -110,7 +110,9 @@ pub effects-numbers : (rs : List Record) (s : State) → every notStatus rs ≡ 
 effects-numbers [] s none below low = (low, refl)
 effects-numbers (r ∷ rs) s none below low =
     let kept : (effect s r) .count ≡ s .count = effect-count s r (not-true (isStatus r) (and-left (notStatus r) (every notStatus rs) none)) in
-    let rest = effects-numbers rs (effect s r) (and-right (notStatus r) (every notStatus rs) none) (rw kept below) (rw kept (effect-followed s r below .1 low)) in
+    let rest =
+    effects-numbers rs (effect s r) (and-right (notStatus r) (every notStatus rs) none) (rw kept below)
+    (rw kept (effect-followed s r below .1 low)) in
     (subst (λ (n : ℕ). (effects (effect s r) rs) .armed ≤ n + 1) kept (rest .0), rest .1 ∙ kept)
 
 -- two states of one outline have one outline after the same records

@@ -80,7 +80,8 @@ module _ (done : Verdict) where
       → every unmet xs ≡ true
   unless-taken [] from order = λ _. refl
   unless-taken (x ∷ xs) from order =
-      chosen-either (λ (v : Verdict). isRefusal (v .status) ≡ false → every unmet (x ∷ xs) ≡ true) (x .1) (verdict (x .0) []) (unless xs done)
+      chosen-either (λ (v : Verdict). isRefusal (v .status) ≡ false → every unmet (x ∷ xs) ≡ true)
+      (x .1) (verdict (x .0) []) (unless xs done)
       (λ _ taken. absurd (true≢false (sym (order-refusal from x xs order) ∙ taken)))
       (λ free taken. rw free (unless-taken xs (refusalPlace (x .0) + 1) (order-after from x xs order) taken))
 
@@ -170,7 +171,8 @@ unfolding verdictOf
 refused s e = unless-refused (taken s e) (refusalsOf s e) (rule-status s e)
 
 -- a refusal's own condition holds
-pub refused-met : (s : State) (e : Event) → isRefusal (verdictOf s e .status) ≡ true → some (metAs (verdictOf s e .status)) (refusalsOf s e) ≡ true
+pub refused-met : (s : State) (e : Event) → isRefusal (verdictOf s e .status) ≡ true
+    → some (metAs (verdictOf s e .status)) (refusalsOf s e) ≡ true
 refused-met s e against = refused s e against .0
 
 -- and no condition of a refusal that is looked for before it does
