@@ -13,11 +13,10 @@
 -- content-read. Opened: `taken`, `closed`, `reads`.
 -- Of the manager: what its own test of soundness tells (state-sound, log-clauses, used-before). Opened: `stepOf`, `flushOf`.
 -- Assumes nothing.
-use Prim.Native.Nat.{ℕ, _+_, _*_, _^_, _<_, _≤_}
+use Prim.Native.Nat.{ℕ, _+_, _*_, _^_, _<_}
 use mathlib.Core.Bool.{true}
 use mathlib.Core.List.{List, [], _∷_, _++_}
 use mathlib.Core.Path.{_≡_, ap, sym, _∙_}
-use native.Mathlib.Omega.{arith}
 use lib.ListN.{length, take}
 use Rattle.kinds.specs.Kinds.{LAST-NUMBER}
 use Rattle.kinds.specs.Choice.{every}
@@ -74,7 +73,7 @@ module _ (s : State) (e : Event) (ok : sound s ≡ true) (below : s .count < LAS
         actions = verdictOf s e .records;
         status = verdictOf s e .status;
         quiet = records-no-status s e;
-        few = omega (arith, records-length s e ok);
+        few = records-length s e ok;
         range = sym (ap (every recordInRange) script-whole) ∙ script-range s e ok;
         fit = sym (ap (every vFits) script-whole) ∙ script-fits s e a b;
         sound = sym (ap sound next-whole) ∙ next-sound s e ok below;

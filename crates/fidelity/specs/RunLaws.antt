@@ -1,16 +1,16 @@
 -- What a manager that began fresh keeps, whatever it is asked: its blocks are a chain from the fresh state to the state at which the
 -- open block began, and the open block's records lead from there to its present state. Each of these states is in its history.
 -- Assumes nothing.
-use Prim.Native.Nat.{ℕ, zero, suc, _+_, _*_, _^_, _<_, _≤_}
-use mathlib.Core.Bool.{Bool, true, false, not, _&&_}
+use Prim.Native.Nat.{ℕ, zero, suc, _+_, _^_, _<_, _≤_}
+use mathlib.Core.Bool.{true, not}
 use mathlib.Core.List.{List, [], _∷_, _++_}
 use mathlib.Core.Logic.{_⊎_, inl, inr}
 use mathlib.Core.Path.{_≡_, refl, ap, sym, _∙_}
 use native.Mathlib.Nat.{zero-add}
 use native.Mathlib.Omega.{arith}
-use borrow.Author.Tests.{leb-true, leb-false, eqb-false, ne-eqb, not-false}
+use borrow.Author.Tests.{leb-true, leb-false, eqb-false, not-false}
 use lib.ListN.{length, length-append}
-use lib.Dec.{eqb, leb}
+use lib.Dec.{eqb}
 use Rattle.kinds.specs.ChoiceLaws.{chosen-either}
 use Rattle.kinds.specs.Kinds.{LAST-NUMBER}
 use Rattle.kinds.specs.Choice.{if_then_else_}
