@@ -24,10 +24,9 @@ pub(crate) fn cal_start(s: State) -> Ruling
     if lci_is(s, Task::Stopping) | lpa_is(s, Task::Stopping) {
         return refused(s, Status::OthStop);
     }
-    let draft = blank(s)
+    blank(s)
         .emit(Record::CalStart)
-        .emit(Record::LciState(Task::Running));
-    draft
+        .emit(Record::LciState(Task::Running))
         .emit(Record::OpMode(Mode::Calibration))
         .done(Status::PktSent)
 }
@@ -48,10 +47,10 @@ pub(crate) fn cal_abort(s: State) -> Ruling
     if in_mode(s, Mode::Terminal) | in_mode(s, Mode::Hold) {
         return refused(s, Status::BadMode);
     }
-    let draft = blank(s)
+    blank(s)
         .emit(Record::CalAbort)
-        .emit(Record::LciState(cal_aborted(s)));
-    draft.done(Status::Fwd)
+        .emit(Record::LciState(cal_aborted(s)))
+        .done(Status::Fwd)
 }
 
 pub(crate) fn cal_other(s: State) -> Ruling
@@ -71,8 +70,9 @@ pub(crate) fn cal_status(s: State, good: bool) -> Ruling
 {
     let draft = blank(s).emit(Record::CalStatus(good));
     if in_mode(s, Mode::Calibration) & s.lci_awaited & !good {
-        let idle = draft.emit(Record::LciState(Task::Idle));
-        return idle.emit(Record::OpMode(Mode::Quiescent))
+        return draft
+            .emit(Record::LciState(Task::Idle))
+            .emit(Record::OpMode(Mode::Quiescent))
             .done(Status::Success);
     }
     draft.done(Status::Success)
@@ -81,11 +81,10 @@ pub(crate) fn cal_status(s: State, good: bool) -> Ruling
 pub(crate) fn cal_complete(s: State) -> Ruling
     ensures { λ r. ⌜ r ≡ ruledAs s (decide (calComplete s)) ⌝ }
 {
-    let draft = blank(s)
+    let quiescent = Record::OpMode(Mode::Quiescent);
+    blank(s)
         .emit(Record::CalComp)
-        .emit(Record::LciState(Task::Idle));
-    let calibration = in_mode(s, Mode::Calibration);
-    draft
-        .emit_if(calibration, Record::OpMode(Mode::Quiescent))
+        .emit(Record::LciState(Task::Idle))
+        .emit_if(in_mode(s, Mode::Calibration), quiescent)
         .done(Status::Success)
 }

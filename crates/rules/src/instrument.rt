@@ -49,8 +49,8 @@ pub(crate) fn main_feed_on(s: State) -> Ruling
     if !in_mode(s, Mode::Terminal) {
         return refused(s, Status::BadMode);
     }
-    let draft = blank(s).emit(Record::MainFeed);
-    draft
+    blank(s)
+        .emit(Record::MainFeed)
         .emit(Record::OpMode(Mode::Quiescent))
         .done(Status::Success)
 }
@@ -74,8 +74,10 @@ pub(crate) fn power_on(s: State, mask: u32) -> Ruling
     if mask == 0 {
         return refused(s, Status::BadParam);
     }
-    let draft = blank(s).emit(Record::PowerOn { mask }).emit(configured(s));
-    draft.done(Status::Success)
+    blank(s)
+        .emit(Record::PowerOn { mask })
+        .emit(configured(s))
+        .done(Status::Success)
 }
 
 pub(crate) fn power_off(s: State, mask: u32) -> Ruling
@@ -122,9 +124,8 @@ pub(crate) fn saa_enter(s: State) -> Ruling
     let wait = Record::Wait {
         seconds: Record::WAIT_LONG,
     };
-    let draft = stop_physics(s, blank(s).emit(Record::SaaChange(true)));
-    let draft = draft.emit_if(lpa_is(s, Task::Running), wait);
-    draft
+    stop_physics(s, blank(s).emit(Record::SaaChange(true)))
+        .emit_if(lpa_is(s, Task::Running), wait)
         .emit_if(!in_mode(s, Mode::Terminal), Record::SaaCfg)
         .done(Status::Success)
 }
@@ -132,8 +133,8 @@ pub(crate) fn saa_enter(s: State) -> Ruling
 pub(crate) fn saa_exit(s: State) -> Ruling
     ensures { λ r. ⌜ r ≡ ruledAs s (decide (saaExit s)) ⌝ }
 {
-    let draft = blank(s).emit(Record::SaaChange(false));
-    draft
+    blank(s)
+        .emit(Record::SaaChange(false))
         .emit_if(!in_mode(s, Mode::Terminal), Record::NonSaaCfg)
         .done(Status::Success)
 }
@@ -158,9 +159,13 @@ fn shed(draft: Draft) -> Draft
     let short = Record::Wait {
         seconds: Record::WAIT_SHORT,
     };
-    let draft = draft.emit(Record::LtcStop).emit(long);
-    let draft = draft.emit(Record::ShedBegin).emit(Record::ShedEnd);
-    draft.emit(Record::SiuReboot).emit(short)
+    draft
+        .emit(Record::LtcStop)
+        .emit(long)
+        .emit(Record::ShedBegin)
+        .emit(Record::ShedEnd)
+        .emit(Record::SiuReboot)
+        .emit(short)
 }
 
 pub(crate) fn no_op(s: State) -> Ruling

@@ -35,12 +35,11 @@ pub(crate) fn lpa_start(s: State, run: u32) -> Ruling
         return refused(s, Status::OthStop);
     }
     let mode = mode_to_start(s);
-    let draft = blank(s)
-        .emit(Record::LpaStart { mode, run })
-        .emit(Record::LpaState(Task::Running));
-    let draft = draft.emit_if(quiescent, Record::OpMode(Mode::Physics));
     let waiting = too_is(s, TooState::Waiting);
-    draft
+    blank(s)
+        .emit(Record::LpaStart { mode, run })
+        .emit(Record::LpaState(Task::Running))
+        .emit_if(quiescent, Record::OpMode(Mode::Physics))
         .emit_if(too & waiting, Record::TooState(TooState::Started))
         .done(Status::PktSent)
 }
@@ -65,10 +64,10 @@ pub(crate) fn lpa_stop(s: State) -> Ruling
     if lpa_is(s, Task::Idle) {
         return refused(s, Status::OthIdle);
     }
-    let draft = blank(s)
+    blank(s)
         .emit(Record::LpaStop)
-        .emit(Record::LpaState(Task::Stopping));
-    draft.done(Status::PktSent)
+        .emit(Record::LpaState(Task::Stopping))
+        .done(Status::PktSent)
 }
 
 pub(crate) fn lpa_other(s: State) -> Ruling
@@ -92,8 +91,9 @@ pub(crate) fn lpa_status(s: State, good: bool) -> Ruling
     let draft = blank(s).emit(Record::LpaStatus(good));
     let physics = in_mode(s, Mode::Physics);
     if (physics | in_mode(s, Mode::Too)) & s.lpa_awaited & !good {
-        let idle = draft.emit(Record::LpaState(Task::Idle));
-        return idle.emit_if(physics, Record::OpMode(Mode::Quiescent))
+        return draft
+            .emit(Record::LpaState(Task::Idle))
+            .emit_if(physics, Record::OpMode(Mode::Quiescent))
             .done(Status::Success);
     }
     draft.done(Status::Success)
@@ -102,11 +102,10 @@ pub(crate) fn lpa_status(s: State, good: bool) -> Ruling
 pub(crate) fn lpa_complete(s: State) -> Ruling
     ensures { λ r. ⌜ r ≡ ruledAs s (decide (lpaComplete s)) ⌝ }
 {
-    let draft = blank(s)
+    let quiescent = Record::OpMode(Mode::Quiescent);
+    blank(s)
         .emit(Record::LpaComp)
-        .emit(Record::LpaState(Task::Idle));
-    let physics = in_mode(s, Mode::Physics);
-    draft
-        .emit_if(physics, Record::OpMode(Mode::Quiescent))
+        .emit(Record::LpaState(Task::Idle))
+        .emit_if(in_mode(s, Mode::Physics), quiescent)
         .done(Status::Success)
 }

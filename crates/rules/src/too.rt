@@ -63,8 +63,10 @@ fn too_starting(s: State, run: u32, draft: Draft) -> Draft
         return draft.emit(Record::LpaMode(mode)).emit(started);
     }
     if starts_physics(s) {
-        let draft = draft.emit(Record::LpaStart { mode, run });
-        return draft.emit(Record::LpaState(Task::Running)).emit(started);
+        return draft
+            .emit(Record::LpaStart { mode, run })
+            .emit(Record::LpaState(Task::Running))
+            .emit(started);
     }
     draft.emit(Record::TooState(TooState::Waiting))
 }

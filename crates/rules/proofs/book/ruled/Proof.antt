@@ -1,7 +1,6 @@
 -- `ruled`: the verdict and its STATUS.
 -- Assumes nothing.
 use borrow.Author.Needs.{needs}
-use Rattle.rules.proofs.Drafts.{closed}
 use Rattle.rules.specs.Ruling.{rulingOf}
 use Rattle.rules.proofs.book.ruled.Statement.{statement}
 use Rattle.rules.proofs.book.ruled.Tie as tie
@@ -14,4 +13,4 @@ ruled-spec =
     (λ c κs. search needs)
     (λ c κs. search needs)
     (λ c κs. search needs)
-    (λ c. closed _ _ _ _ _ (c .before .before .heard .ensures) (c .before .one-more .ensures) (c .closed .ensures)))
+    (λ c. simp (c .closed .ensures, c .before .one-more .ensures, c .before .before .heard .ensures)))
