@@ -13,30 +13,21 @@
 -- content-read. Opened: `taken`, `closed`, `reads`.
 -- Of the manager: what its own test of soundness tells (state-sound, log-clauses, used-before). Opened: `stepOf`, `flushOf`.
 -- Assumes nothing.
-use Prim.Native.Nat.{ℕ, _+_, _*_, _^_, _<_}
+use Prim.Native.Nat.{_+_, _*_, _<_}
 use mathlib.Core.Bool.{true}
 use mathlib.Core.List.{List, [], _∷_, _++_}
-use mathlib.Core.Path.{_≡_, ap, sym, _∙_}
+use mathlib.Core.Path.{_≡_}
 use lib.ListN.{length, take}
-use Rattle.kinds.specs.Kinds.{LAST-NUMBER}
 use Rattle.kinds.specs.Choice.{every}
-use Rattle.state.specs.State.{sound}
-use Rattle.events.specs.Event.{partsOfEvent}
-use Rattle.records.specs.Record.{MOST-RECORDS, notStatus, recordInRange, vFits}
-use Rattle.layout.specs.Record.{RECORD, recordsBytes}
-use Rattle.state.specs.Effect.{effects}
-use Rattle.state.specs.EffectLaws.{one-more-below}
-use Rattle.state.specs.declared.State.{State}
 use Rattle.kinds.specs.declared.status.Status.{Status}
-use Rattle.events.specs.declared.Event.{Event}
+use Rattle.records.specs.Record.{MOST-RECORDS, notStatus, recordInRange, vFits}
 use Rattle.records.specs.declared.Record.{Record}
+use Rattle.layout.specs.Record.{RECORD, recordsBytes}
+use Rattle.state.specs.State.{sound}
+use Rattle.state.specs.Effect.{effects}
+use Rattle.state.specs.declared.State.{State}
 use Rattle.draft.specs.Draft.{ROOM}
 use Rattle.draft.specs.declared.Draft.{Draft}
-use Rattle.rules.specs.Rules.{verdictOf}
-use Rattle.rules.specs.Script.{script, next}
-use Rattle.rules.specs.Ruling.{rulingOf}
-use Rattle.book.specs.Book.{script-form, records-no-status, records-length, script-range, script-fits, next-count, next-sound}
-use Rattle.book.specs.Book.{ruling-held, ruling-state, ruling-count, ruling-bytes}
 
 -- the records of an event: its actions, and the STATUS that closes it with the next number
 abbrev pub whole : State → List Record → Status → List Record
@@ -56,30 +47,3 @@ pub record Ruled (s : State) (d : Draft) : Type 0 where
   pub count : d .count ≡ length (whole s actions status)
   pub bytes : take (RECORD * d .count) (d .bytes) ≡ recordsBytes (whole s actions status)
   pub long : length (d .bytes) ≡ ROOM
-
-module _ (s : State) (e : Event) (ok : sound s ≡ true) (below : s .count < LAST-NUMBER) where
-  script-whole : script s e ≡ whole s (verdictOf s e .records) (verdictOf s e .status)
-  script-whole =
-      script-form s e
-      ∙ ap (λ (n : ℕ). verdictOf s e .records ++ Record.Status (verdictOf s e .status) n ∷ []) (one-more-below (s .count) below)
-
-  next-whole : next s e ≡ effects s (whole s (verdictOf s e .records) (verdictOf s e .status))
-  unfolding next
-  next-whole = ap (effects s) script-whole
-
-  pub ruled : partsOfEvent e .a < 2 ^ 32 → partsOfEvent e .b < 2 ^ 32 → Ruled s (rulingOf s e .draft)
-  ruled a b =
-      record {
-        actions = verdictOf s e .records;
-        status = verdictOf s e .status;
-        quiet = records-no-status s e;
-        few = records-length s e ok;
-        range = sym (ap (every recordInRange) script-whole) ∙ script-range s e ok;
-        fit = sym (ap (every vFits) script-whole) ∙ script-fits s e a b;
-        sound = sym (ap sound next-whole) ∙ next-sound s e ok below;
-        number = sym (ap (λ (t : State). t .count) next-whole) ∙ next-count s e below;
-        state = ruling-state s e ok ∙ next-whole;
-        count = ruling-count s e ok ∙ ap length script-whole;
-        bytes = ruling-bytes s e ok ∙ ap recordsBytes script-whole;
-        long = ruling-held s e .1;
-      }

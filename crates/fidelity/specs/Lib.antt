@@ -3,6 +3,7 @@
 pub mod Pass
 pub mod Fidelity
 pub mod Interface
+pub mod InterfaceLaws
 pub mod Replay
 pub mod ReplayLaws
 pub mod Chain

@@ -32,7 +32,8 @@ use Rattle.manager.specs.Log.{blankArea, fits, areaWith, headWith, headNext}
 use Rattle.manager.specs.Manager.{freshHead, bothSound, Outcome, kept, added, turned, logged, heardEvent, stepOf, flushed, flushOf, stepped, flushedOf}
 use Rattle.manager.specs.LogLaws.{Clauses, state-sound, log-clauses, used-before}
 use Rattle.fidelity.specs.Pass.{Operation, stepping, flushing, EventBytes, Run, freshRun, afterStep, afterFlush, afterAll, runOf, At}
-use Rattle.fidelity.specs.Interface.{whole, Ruled, ruled}
+use Rattle.fidelity.specs.Interface.{whole, Ruled}
+use Rattle.fidelity.specs.InterfaceLaws.{ruled}
 use Rattle.fidelity.specs.Chain.{Link, Chain}
 use Rattle.fidelity.specs.ChainLaws.{at-longer, at-end, at-cases, chain-longer, chain-more, link-at}
 use Rattle.fidelity.specs.Open.{Open}
