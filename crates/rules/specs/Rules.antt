@@ -124,7 +124,7 @@ calComplete s =
     (Record.CalComp ∷ Record.LciState Task.Idle
     ∷ (if inMode s Mode.Calibration then Record.OpMode Mode.Quiescent ∷ [] else []))
 
--- a start in QUIESCENT is an ordinary run; in TOO it is the target's, which may have waited for it
+-- a start in QUIESCENT is an ordinary run, in TOO the target's
 abbrev pub lpaModeToStart : State → LpaMode
 lpaModeToStart s = if inMode s Mode.Quiescent then LpaMode.Normal else LpaMode.Too
 
