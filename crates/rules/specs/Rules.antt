@@ -92,16 +92,12 @@ calStart s =
     Status.PktSent
     (Record.CalStart ∷ Record.LciState Task.Running ∷ Record.OpMode Mode.Calibration ∷ [])
 
--- what an abort makes of the calibration
-abbrev pub calAborted : State → Task
-calAborted s = if lciIs s Task.Idle then Task.Idle else Task.Stopping
-
 abbrev pub calAbort : State → Rule
 calAbort s =
     rule
     (only (not (inMode s Mode.Terminal || inMode s Mode.Hold)) ∷ [])
     Status.Fwd
-    (Record.CalAbort ∷ Record.LciState (calAborted s) ∷ [])
+    (Record.CalAbort ∷ Record.LciState (if lciIs s Task.Idle then Task.Idle else Task.Stopping) ∷ [])
 
 abbrev pub calOther : State → Rule
 calOther s =
@@ -124,10 +120,7 @@ calComplete s =
     (Record.CalComp ∷ Record.LciState Task.Idle
     ∷ (if inMode s Mode.Calibration then Record.OpMode Mode.Quiescent ∷ [] else []))
 
--- a start in QUIESCENT is an ordinary run; in TOO it is the target's, which may have waited for it
-abbrev pub lpaModeToStart : State → LpaMode
-lpaModeToStart s = if inMode s Mode.Quiescent then LpaMode.Normal else LpaMode.Too
-
+-- a start in QUIESCENT is an ordinary run, in TOO the target's
 abbrev pub lpaStart : State → ℕ → Rule
 lpaStart s run =
     rule
@@ -137,7 +130,7 @@ lpaStart s run =
     ∷ (Status.OthStop, lpaIs s Task.Stopping)
     ∷ [])
     Status.PktSent
-    (Record.LpaStart (lpaModeToStart s) run ∷ Record.LpaState Task.Running
+    (Record.LpaStart (if inMode s Mode.Quiescent then LpaMode.Normal else LpaMode.Too) run ∷ Record.LpaState Task.Running
     ∷ ((if inMode s Mode.Quiescent then Record.OpMode Mode.Physics ∷ [] else [])
     ++ (if inMode s Mode.Too && tooIs s TooState.Waiting then Record.TooState TooState.Started ∷ [] else [])))
 

@@ -1,7 +1,9 @@
 // The rules of the calibration task, LCI (Mode rules).
 ghost use mathlib.Core.Path.{_≡_};
+ghost use Rattle.kinds.specs.Choice.{if_then_else_};
+ghost use Rattle.kinds.specs.declared.task.Task.{Task};
 ghost use Rattle.rules.specs.Rule.{decide};
-ghost use Rattle.rules.specs.Rules.{calStart, calAborted, calAbort, calOther, calStatus, calComplete};
+ghost use Rattle.rules.specs.Rules.{calStart, calAbort, calOther, calStatus, calComplete};
 ghost use Rattle.rules.specs.Ruling.{ruledAs};
 use crate::conditions::in_mode;
 use crate::conditions::lci_is;
@@ -31,14 +33,10 @@ pub(crate) fn cal_start(s: State) -> Ruling
         .done(Status::PktSent)
 }
 
-fn cal_aborted(s: State) -> Task
-    ensures { λ r. ⌜ r ≡ calAborted s ⌝ }
+fn aborted(idle: bool) -> Task
+    ensures { λ r. ⌜ r ≡ (if idle then Task.Idle else Task.Stopping) ⌝ }
 {
-    if lci_is(s, Task::Idle) {
-        Task::Idle
-    } else {
-        Task::Stopping
-    }
+    if idle { Task::Idle } else { Task::Stopping }
 }
 
 pub(crate) fn cal_abort(s: State) -> Ruling
@@ -49,7 +47,7 @@ pub(crate) fn cal_abort(s: State) -> Ruling
     }
     blank(s)
         .emit(Record::CalAbort)
-        .emit(Record::LciState(cal_aborted(s)))
+        .emit(Record::LciState(aborted(lci_is(s, Task::Idle))))
         .done(Status::Fwd)
 }
 

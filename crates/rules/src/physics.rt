@@ -1,7 +1,9 @@
 // The rules of the physics task, LPA (Mode rules).
 ghost use mathlib.Core.Path.{_≡_};
+ghost use Rattle.kinds.specs.Choice.{if_then_else_};
+ghost use Rattle.kinds.specs.declared.lpa_mode.LpaMode.{LpaMode};
 ghost use Rattle.rules.specs.Rule.{decide};
-ghost use Rattle.rules.specs.Rules.{lpaModeToStart, lpaStart, lpaStop, lpaOther, lpaStatus, lpaComplete};
+ghost use Rattle.rules.specs.Rules.{lpaStart, lpaStop, lpaOther, lpaStatus, lpaComplete};
 ghost use Rattle.rules.specs.Ruling.{ruledAs};
 use crate::conditions::in_mode;
 use crate::conditions::lpa_is;
@@ -34,7 +36,7 @@ pub(crate) fn lpa_start(s: State, run: u32) -> Ruling
     if lpa_is(s, Task::Stopping) {
         return refused(s, Status::OthStop);
     }
-    let mode = mode_to_start(s);
+    let mode = mode_to_start(quiescent);
     let waiting = too_is(s, TooState::Waiting);
     blank(s)
         .emit(Record::LpaStart { mode, run })
@@ -45,10 +47,10 @@ pub(crate) fn lpa_start(s: State, run: u32) -> Ruling
 }
 
 // For the observation, or for the target of opportunity.
-fn mode_to_start(s: State) -> LpaMode
-    ensures { λ r. ⌜ r ≡ lpaModeToStart s ⌝ }
+fn mode_to_start(quiescent: bool) -> LpaMode
+    ensures { λ r. ⌜ r ≡ (if quiescent then LpaMode.Normal else LpaMode.Too) ⌝ }
 {
-    if in_mode(s, Mode::Quiescent) {
+    if quiescent {
         LpaMode::Normal
     } else {
         LpaMode::Too

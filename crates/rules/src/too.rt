@@ -35,7 +35,9 @@ pub(crate) fn too_start(s: State, run: u32, dwell: u32) -> Ruling
     }
     let draft = blank(s).emit(Record::TooTimerStart { dwell });
     let draft = too_starting(s, run, draft);
-    draft.emit(Record::OpMode(Mode::Too)).done(sent(s))
+    draft
+        .emit(Record::OpMode(Mode::Too))
+        .done(sent(starts_physics(s)))
 }
 
 fn starts_physics(s: State) -> bool
@@ -44,10 +46,10 @@ fn starts_physics(s: State) -> bool
     lpa_is(s, Task::Idle) & !s.saa
 }
 
-fn sent(s: State) -> Status
-    ensures { λ r. ⌜ r ≡ (if startsPhysics s then Status.PktSent else Status.Success) ⌝ }
+fn sent(started: bool) -> Status
+    ensures { λ r. ⌜ r ≡ (if started then Status.PktSent else Status.Success) ⌝ }
 {
-    if starts_physics(s) {
+    if started {
         Status::PktSent
     } else {
         Status::Success

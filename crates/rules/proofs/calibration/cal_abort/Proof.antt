@@ -18,4 +18,5 @@ cal-abort-spec =
     (λ c κs. search needs)
     (λ c κs. search needs)
     (λ c κs. search needs)
-    (λ c. simp (c .before .before .before .before .before .if1 .left, ← c .before .before .before .before .before .before .in-mode2 .ensures, ← c .before .before .before .before .before .before .before .in-mode .ensures) (simp (c .done .ensures, c .before .emit2 .ensures, c .before .before .cal-aborted .ensures, c .before .before .before .emit .ensures, c .before .before .before .before .blank .ensures, emitting))))
+    (λ c κs. search needs)
+    (λ c. simp (← c .before .before .before .lci-is .ensures, c .before .before .before .before .before .before .if1 .left, ← c .before .before .before .before .before .before .before .in-mode2 .ensures, ← c .before .before .before .before .before .before .before .before .in-mode .ensures) (simp (c .done .ensures, c .before .emit2 .ensures, c .before .before .aborted .ensures, c .before .before .before .before .emit .ensures, c .before .before .before .before .before .blank .ensures, emitting))))

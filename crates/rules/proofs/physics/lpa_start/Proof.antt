@@ -29,4 +29,4 @@ lpa-start-spec =
     (λ c κs. search needs)
     (λ c κs. search needs)
     (λ c κs. search needs)
-    (λ c. simp (← c .before .before .before .before .before .before .too-is .ensures, c .before .before .before .before .before .before .before .before .if4 .left, ← c .before .before .before .before .before .before .before .before .before .lpa-is2 .ensures, c .before .before .before .before .before .before .before .before .before .before .if3 .left, ← c .before .before .before .before .before .before .before .before .before .before .before .lpa-is .ensures, c .before .before .before .before .before .before .before .before .before .before .before .before .if2 .left, c .before .before .before .before .before .before .before .before .before .before .before .before .before .if1 .left, ← c .before .before .before .before .before .before .before .before .before .before .before .before .before .before .in-mode2 .ensures, ← c .before .before .before .before .before .before .before .before .before .before .before .before .before .before .before .in-mode .ensures) (simp (c .done .ensures, c .before .emit-if2 .ensures, c .before .before .emit-if .ensures, c .before .before .before .emit2 .ensures, c .before .before .before .before .emit .ensures, c .before .before .before .before .before .blank .ensures, c .before .before .before .before .before .before .before .mode-to-start .ensures, ← c .before .before .before .before .before .before .before .before .before .before .before .before .before .before .before .in-mode .ensures, emitting))))
+    (λ c. simp (← c .before .before .before .before .before .before .too-is .ensures, c .before .before .before .before .before .before .before .before .if4 .left, ← c .before .before .before .before .before .before .before .before .before .lpa-is2 .ensures, c .before .before .before .before .before .before .before .before .before .before .if3 .left, ← c .before .before .before .before .before .before .before .before .before .before .before .lpa-is .ensures, c .before .before .before .before .before .before .before .before .before .before .before .before .if2 .left, c .before .before .before .before .before .before .before .before .before .before .before .before .before .if1 .left, ← c .before .before .before .before .before .before .before .before .before .before .before .before .before .before .in-mode2 .ensures, ← c .before .before .before .before .before .before .before .before .before .before .before .before .before .before .before .in-mode .ensures) (simp (c .done .ensures, c .before .emit-if2 .ensures, c .before .before .emit-if .ensures, c .before .before .before .emit2 .ensures, c .before .before .before .before .emit .ensures, c .before .before .before .before .before .blank .ensures, c .before .before .before .before .before .before .before .mode-to-start .ensures, emitting))))

@@ -1,4 +1,4 @@
--- `starts_physics`: each way out is its case of the rule.
+-- `starts_physics`: idle, and outside the SAA.
 -- Assumes nothing.
 use borrow.Author.Needs.{needs}
 use Rattle.rules.proofs.too.starts_physics.Statement.{statement}

@@ -25,4 +25,5 @@ too-start-spec =
     (λ c κs. search needs)
     (λ c κs. search needs)
     (λ c κs. search needs)
-    (λ c. simp (c .before .before .before .before .before .before .if3 .left, ← c .before .before .before .before .before .before .before .dwell-in-range .ensures, c .before .before .before .before .before .before .before .before .before .if1 .left, ← c .before .before .before .before .before .before .before .before .before .before .in-mode3 .ensures, ← c .before .before .before .before .before .before .before .before .before .before .before .in-mode2 .ensures, ← c .before .before .before .before .before .before .before .before .before .before .before .before .in-mode .ensures) (simp (c .before .before .before .before .before .before .before .before .if2 .left) (simp (c .done .ensures, c .before .sent .ensures, c .before .before .emit2 .ensures, c .before .before .before .too-starting .ensures, c .before .before .before .before .emit .ensures, c .before .before .before .before .before .blank .ensures, emitting)))))
+    (λ c κs. search needs)
+    (λ c. simp (← c .before .before .starts-physics .ensures, c .before .before .before .before .before .before .before .if3 .left, ← c .before .before .before .before .before .before .before .before .dwell-in-range .ensures, c .before .before .before .before .before .before .before .before .before .before .if1 .left, ← c .before .before .before .before .before .before .before .before .before .before .before .in-mode3 .ensures, ← c .before .before .before .before .before .before .before .before .before .before .before .before .in-mode2 .ensures, ← c .before .before .before .before .before .before .before .before .before .before .before .before .before .in-mode .ensures) (simp (c .before .before .before .before .before .before .before .before .before .if2 .left) (simp (c .done .ensures, c .before .sent .ensures, c .before .before .before .emit2 .ensures, c .before .before .before .before .too-starting .ensures, ← c .before .before .starts-physics .ensures, c .before .before .before .before .before .emit .ensures, c .before .before .before .before .before .before .blank .ensures, emitting)))))
