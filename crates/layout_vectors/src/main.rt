@@ -15,8 +15,11 @@ fn main() {
     reading();
     heads();
     events();
-    events_refused();
+    strings_refused();
+    fields_refused();
     records();
+    records_with_a_value();
+    records_with_a_number();
     records_of_timers();
 }
 
@@ -174,8 +177,8 @@ fn events() {
     );
 }
 
-// Strings that are no event, one for each reason.
-fn events_refused() {
+// Strings that are no event, by their length, their code and the zero field.
+fn strings_refused() {
     event(b"NOOP of 11 bytes", &[0, 10, 0, 0, 0, 0, 0, 0, 0, 0, 0], 0);
     event(
         b"NOOP of 13 bytes",
@@ -194,6 +197,10 @@ fn events_refused() {
         &[0, 10, 0, 1, 0, 0, 0, 0, 0, 0, 0, 0],
         0,
     );
+}
+
+// The same by a and b.
+fn fields_refused() {
     event(b"NOOP, a 1", &[0, 10, 0, 0, 0, 0, 0, 1, 0, 0, 0, 0], 0);
     event(b"LPASTART, b 1", &[0, 14, 0, 0, 0, 0, 0, 8, 0, 0, 0, 1], 0);
     event(b"CALSTATUS 2", &[0, 20, 0, 0, 0, 0, 0, 2, 0, 0, 0, 0], 0);
@@ -222,7 +229,7 @@ const WRONG_D: u8 = 2;
 
 const WRONG_V: u8 = 3;
 
-// Records that are right, and with what is wrong first.
+// Records that are right, and with what is wrong first: by the code, and d before v.
 fn records() {
     record(b"code 0", &[0, 0, 0, 0, 0, 0, 0, 0], WRONG_CODE);
     record(b"code 30", &[0, 30, 0, 0, 0, 0, 0, 0], WRONG_CODE);
@@ -230,12 +237,20 @@ fn records() {
     record(b"OPMODE 7", &[0, 1, 0, 7, 0, 0, 0, 0], WRONG_D);
     record(b"OPMODE 7, v 1", &[0, 1, 0, 7, 0, 0, 0, 1], WRONG_D);
     record(b"OPMODE 6, v 1", &[0, 1, 0, 6, 0, 0, 0, 1], WRONG_V);
+}
+
+// By the value in v.
+fn records_with_a_value() {
     record(b"POWERON, mask 0", &[0, 21, 0, 0, 0, 0, 0, 0], WRONG_V);
     record(b"POWERON, mask 1", &[0, 21, 0, 0, 0, 0, 0, 1], RIGHT);
     record(b"POWEROFF, mask 0", &[0, 22, 0, 0, 0, 0, 0, 0], WRONG_V);
     record(b"WAIT 1", &[0, 27, 0, 0, 0, 0, 0, 1], RIGHT);
     record(b"WAIT 2", &[0, 27, 0, 0, 0, 0, 0, 2], WRONG_V);
     record(b"WAIT 5", &[0, 27, 0, 0, 0, 0, 0, 5], RIGHT);
+}
+
+// By the number in d, and a record that is cut.
+fn records_with_a_number() {
     record(b"ALERT 0x346", &[0, 28, 0x03, 0x46, 0, 0, 0, 0], RIGHT);
     record(b"ALERT 0x347", &[0, 28, 0x03, 0x47, 0, 0, 0, 0], WRONG_D);
     record(b"STATUS 11", &[0, 29, 0, 11, 0, 0, 0, 8], RIGHT);

@@ -61,6 +61,9 @@ impl State {
         }
     }
 
+    // One field changed. A number or a flag is stored where it stands, which takes fewer instructions; a field that is an enum cannot be
+    // stored to, and the state is written anew.
+
     pub fn with_mode(self, mode: Mode) -> Self
         ensures { λ r. ⌜ r ≡ withMode self mode ⌝ }
     {
@@ -85,28 +88,25 @@ impl State {
         State { lpa_mode, ..self }
     }
 
-    pub fn with_saa(self, saa: bool) -> Self
+    pub fn with_saa(mut self, saa: bool) -> Self
         ensures { λ r. ⌜ r ≡ withSaa self saa ⌝ }
     {
-        State { saa, ..self }
+        self.saa = saa;
+        self
     }
 
-    pub fn with_lci_awaited(self, lci_awaited: bool) -> Self
+    pub fn with_lci_awaited(mut self, lci_awaited: bool) -> Self
         ensures { λ r. ⌜ r ≡ withLciAwaited self «lci_awaited» ⌝ }
     {
-        State {
-            lci_awaited,
-            ..self
-        }
+        self.lci_awaited = lci_awaited;
+        self
     }
 
-    pub fn with_lpa_awaited(self, lpa_awaited: bool) -> Self
+    pub fn with_lpa_awaited(mut self, lpa_awaited: bool) -> Self
         ensures { λ r. ⌜ r ≡ withLpaAwaited self «lpa_awaited» ⌝ }
     {
-        State {
-            lpa_awaited,
-            ..self
-        }
+        self.lpa_awaited = lpa_awaited;
+        self
     }
 
     pub fn with_too(self, too: TooState) -> Self
@@ -115,15 +115,17 @@ impl State {
         State { too, ..self }
     }
 
-    pub fn with_armed(self, armed: u32) -> Self
+    pub fn with_armed(mut self, armed: u32) -> Self
         ensures { λ r. ⌜ r ≡ withArmed self armed ⌝ }
     {
-        State { armed, ..self }
+        self.armed = armed;
+        self
     }
 
-    pub fn with_count(self, count: u32) -> Self
+    pub fn with_count(mut self, count: u32) -> Self
         ensures { λ r. ⌜ r ≡ withCount self count ⌝ }
     {
-        State { count, ..self }
+        self.count = count;
+        self
     }
 }
