@@ -1,5 +1,5 @@
--- THE INTERFACE. All that the proof of fidelity uses of the mode rules, as one law of an event in a state: `ruled`. It is put together
--- from the laws of the book; the other files of this crate name no rule, and open neither a verdict, nor `sound`, nor `effect`. A new
+-- THE INTERFACE. All that the proof of fidelity uses of the mode rules, as one law of an event in a state: `ruled`, in InterfaceLaws. It is
+-- put together from the laws of the book; the other files of this crate name no rule, and open neither a verdict, nor `sound`, nor `effect`. A new
 -- event, rule, mode or record is paid for in the book and does not touch this crate.
 --
 -- Of the book: script-form, records-no-status, records-length, script-range, script-fits, next-count, next-sound, ruling-held,

@@ -118,7 +118,8 @@ statusOf n = numbered statusNumber FoundStatus.Found FoundStatus.Unknown statuse
 abbrev pub statusIs : Status → Status → Bool
 statusIs a b = eqb (statusNumber a) (statusNumber b)
 
--- the refusals, in the order in which they are looked for: the first that applies is the answer. Their numbers do not count here
+-- the refusals, in the order in which they are looked for: the first that applies is the answer. Today it is that of their numbers
+-- (`refusals-numbered`)
 abbrev pub refusalOrder : List Status
 refusalOrder =
     Status.NotRun ∷ Status.BadMode ∷ Status.TooAct ∷ Status.BadParam ∷ Status.Saa

@@ -3,7 +3,7 @@
 -- Assumes nothing.
 use Prim.Native.Nat.{ℕ, _<_, _^_}
 use mathlib.Core.Bool.{Bool, true, false}
-use mathlib.Core.List.{[], _∷_}
+use mathlib.Core.List.{[], _∷_, map}
 use mathlib.Core.Path.{_≡_, refl, ap}
 use Rattle.kinds.specs.Choice.{numbered, every}
 use Rattle.kinds.specs.ChoiceLaws.{Kind, kind-number, kind-is, kind-every, kind-below}
@@ -11,7 +11,7 @@ use Rattle.kinds.specs.Kinds.{modeNumber, modes, modeOf, modeIs}
 use Rattle.kinds.specs.Kinds.{taskNumber, tasks, taskOf, taskIs}
 use Rattle.kinds.specs.Kinds.{lpaModeNumber, lpaModes, lpaModeOf, lpaModeIs}
 use Rattle.kinds.specs.Kinds.{tooStateNumber, tooStates, tooStateOf, tooStateIs}
-use Rattle.kinds.specs.Kinds.{flagNumber, flags, flagOf, statusNumber, statuses, statusOf, answerNumber}
+use Rattle.kinds.specs.Kinds.{flagNumber, flags, flagOf, statusNumber, statuses, statusOf, refusalOrder, answerNumber}
 use Rattle.kinds.specs.declared.mode.Mode.{Mode}
 use Rattle.kinds.specs.declared.mode.FoundMode.{FoundMode}
 use Rattle.kinds.specs.declared.task.Task.{Task}
@@ -146,6 +146,10 @@ status-number n s e = kind-number status-kind n s e
 
 pub status-fits : (s : Status) → statusNumber s < 2 ^ 16
 status-fits s = kind-below status-kind (2 ^ 16) refl s
+
+-- today refusals are looked for by number, upward
+pub refusals-numbered : map statusNumber refusalOrder ≡ 3 ∷ 4 ∷ 5 ∷ 6 ∷ 7 ∷ 8 ∷ 9 ∷ 10 ∷ 11 ∷ []
+refusals-numbered = refl
 
 -- the answer of a number, only to tell the answers' numbers apart
 refusal : ℕ → Answer
