@@ -13,8 +13,9 @@ use Rattle.kinds.specs.ChoiceLaws.{and-left, and-right, every-none}
 use Rattle.kinds.specs.Kinds.{flags}
 use Rattle.kinds.specs.KindsLaws.{flag-every}
 use Rattle.kinds.specs.declared.status.Status.{Status}
-use Rattle.state.specs.State.{sound, shapeSound, withLciAwaited, withLpaAwaited}
-use Rattle.state.specs.StateLaws.{sound-shape}
+use Rattle.state.specs.State.{withLciAwaited, withLpaAwaited}
+use Rattle.soundness.specs.Sound.{sound, shapeSound}
+use Rattle.soundness.specs.SoundLaws.{sound-shape}
 use Rattle.state.specs.Effect.{effects}
 use Rattle.state.specs.declared.State.{State}
 use Rattle.events.specs.declared.Event.{Event}

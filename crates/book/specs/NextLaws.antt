@@ -7,8 +7,9 @@ use mathlib.Core.Path.{_≡_, refl, _∙_}
 use native.Mathlib.Omega.{arith}
 use Rattle.kinds.specs.Kinds.{LAST-NUMBER}
 use Rattle.records.specs.declared.Record.{Record}
-use Rattle.state.specs.State.{sound, withCount}
-use Rattle.state.specs.StateLaws.{sound-armed, sound-from, shape-count}
+use Rattle.state.specs.State.{withCount}
+use Rattle.soundness.specs.Sound.{sound}
+use Rattle.soundness.specs.SoundLaws.{sound-armed, sound-from, shape-count}
 use Rattle.state.specs.Effect.{oneMore, effects}
 use Rattle.state.specs.EffectLaws.{one-more-below}
 use Rattle.state.specs.declared.State.{State}

@@ -9,7 +9,8 @@ use lib.ListN.{length}
 use lib.Dec.{ltb}
 use Rattle.kinds.specs.Choice.{when, every, some}
 use Rattle.kinds.specs.Kinds.{modes, tasks, lpaModes, tooStates, flags, flagNumber}
-use Rattle.state.specs.State.{rebooted, timerOn, calibrationSound, physicsSound, tooSound, bootSound, shapeSound}
+use Rattle.state.specs.State.{rebooted}
+use Rattle.soundness.specs.Sound.{timerOn, calibrationSound, physicsSound, tooSound, bootSound, shapeSound}
 use Rattle.state.specs.State.{withMode, withLci, withLpa, withLpaMode, withSaa, withToo, withArmed, withCount}
 use Rattle.state.specs.Effect.{effect, effects}
 use Rattle.state.specs.declared.State.{State}

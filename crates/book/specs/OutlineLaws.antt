@@ -11,7 +11,8 @@ use Rattle.kinds.specs.Choice.{when, every}
 use Rattle.kinds.specs.ChoiceLaws.{when-true, and-left, and-right}
 use Rattle.kinds.specs.Kinds.{LAST-NUMBER, modes, tasks, lpaModes, tooStates, flags, flagNumber}
 use Rattle.kinds.specs.KindsLaws.{mode-every, task-every, lpa-mode-every, too-state-every, flag-every}
-use Rattle.state.specs.State.{rebooted, timerOn, calibrationSound, physicsSound, tooSound, bootSound, shapeSound}
+use Rattle.state.specs.State.{rebooted}
+use Rattle.soundness.specs.Sound.{timerOn, calibrationSound, physicsSound, tooSound, bootSound, shapeSound}
 use Rattle.state.specs.State.{withMode, withLci, withLpa, withLpaMode, withSaa, withLciAwaited, withLpaAwaited, withToo, withArmed, withCount}
 use Rattle.state.specs.Effect.{oneMore, effect, effects}
 use Rattle.state.specs.EffectLaws.{effect-count, one-more-below}

@@ -1,6 +1,6 @@
 // Strings as long as a block to a fresh ground reader: a line a string with what it answers and holds (The ground reader).
+use blocks::BLOCK;
 use kinds::Mode;
-use layout::BLOCK;
 use libc::STDERR_FILENO;
 use libc::STDOUT_FILENO;
 use reader::Reader;

@@ -7,7 +7,7 @@ use mathlib.Core.List.{List, [], _∷_}
 use mathlib.Core.Path.{_≡_}
 use Rattle.kinds.specs.Kinds.{LAST-NUMBER}
 use Rattle.state.specs.declared.State.{State}
-use Rattle.layout.specs.Block.{intact, headOf}
+use Rattle.blocks.specs.Block.{intact, headOf}
 use Rattle.reader.specs.Content.{contentOf}
 use Rattle.reader.specs.declared.content.Content.{Content}
 use Rattle.fidelity.specs.Pass.{At, lastIn}

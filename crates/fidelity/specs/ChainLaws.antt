@@ -11,7 +11,7 @@ use native.Mathlib.Omega.{arith}
 use lib.ListN.{length}
 use Rattle.kinds.specs.Kinds.{LAST-NUMBER}
 use Rattle.state.specs.declared.State.{State}
-use Rattle.layout.specs.Block.{intact, headOf}
+use Rattle.blocks.specs.Block.{intact, headOf}
 use Rattle.fidelity.specs.Pass.{At, lastAfter}
 use Rattle.fidelity.specs.Chain.{Link, Chain}
 

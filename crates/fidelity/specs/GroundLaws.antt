@@ -18,8 +18,8 @@ use lib.Dec.{leb}
 use Rattle.kinds.specs.ChoiceLaws.{chosen-either}
 use Rattle.state.specs.State.{fresh}
 use Rattle.state.specs.declared.State.{State}
-use Rattle.layout.specs.Block.{intact, headOf}
-use Rattle.layout.specs.BlockLaws.{intact-length, intact-check, intact-other-length, intact-wrong-check}
+use Rattle.blocks.specs.Block.{intact, headOf}
+use Rattle.blocks.specs.BlockLaws.{intact-length, intact-check, intact-other-length, intact-wrong-check}
 use Rattle.reader.specs.Reader.{readerSound, answered, raised, ahead, onward, inTurn, readOf}
 use Rattle.reader.specs.ReaderLaws.{read-damaged, read-other-log, read-already, read-gap, read-in-turn, read-sound}
 use Rattle.reader.specs.declared.reply.Reply.{Reply}

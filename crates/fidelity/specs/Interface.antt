@@ -6,7 +6,7 @@
 -- ruling-state, ruling-count, ruling-bytes.
 -- Of the state: one-more-below; effect-count (no record but STATUS changes the count). Opened: `rebooted`, that fresh has count 0, and `partsOfRecord`
 -- at STATUS, that v is the event's number.
--- Of the layouts: event-fits (an event that is read from bytes has 32-bit numbers); record-read, record-bytes-length, records-bytes-append; head-length,
+-- Of the layouts and blocks: event-fits (an event that is read from bytes has 32-bit numbers); record-read, record-bytes-length, records-bytes-append; head-length,
 -- checked-length, block-intact, block-head; intact-length, intact-check, intact-other-length, intact-wrong-check. Opened: `blockBytes`,
 -- `checkedBytes`, `zerosBetween`.
 -- Of the reader: its table row by row (read-damaged, read-other-log, read-already, read-gap, read-in-turn), fresh-sound, read-sound,
@@ -23,7 +23,7 @@ use Rattle.kinds.specs.declared.status.Status.{Status}
 use Rattle.records.specs.Record.{MOST-RECORDS, notStatus, recordInRange, vFits}
 use Rattle.records.specs.declared.Record.{Record}
 use Rattle.layout.specs.Record.{RECORD, recordsBytes}
-use Rattle.state.specs.State.{sound}
+use Rattle.soundness.specs.Sound.{sound}
 use Rattle.state.specs.Effect.{effects}
 use Rattle.state.specs.declared.State.{State}
 use Rattle.draft.specs.Draft.{ROOM}

@@ -13,7 +13,7 @@ use Rattle.events.specs.declared.Event.{Event}
 use Rattle.records.specs.Record.{recordInRange, vFits}
 use Rattle.records.specs.declared.Record.{Record}
 use Rattle.layout.specs.Record.{recordsBytes}
-use Rattle.state.specs.State.{sound}
+use Rattle.soundness.specs.Sound.{sound}
 use Rattle.state.specs.Effect.{effects}
 use Rattle.state.specs.EffectLaws.{one-more-below}
 use Rattle.state.specs.declared.State.{State}

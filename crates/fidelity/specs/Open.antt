@@ -13,9 +13,9 @@ use Rattle.layout.specs.Record.{recordsBytes}
 use Rattle.state.specs.declared.State.{State}
 use Rattle.kinds.specs.declared.status.Status.{Status}
 use Rattle.records.specs.declared.Record.{Record}
-use Rattle.layout.specs.Block.{AREA}
+use Rattle.blocks.specs.Block.{AREA}
 use Rattle.layout.specs.Record.{RECORD}
-use Rattle.layout.specs.declared.block.Head.{Head}
+use Rattle.blocks.specs.declared.block.Head.{Head}
 use Rattle.reader.specs.declared.content.Content.{Content}
 use Rattle.fidelity.specs.Replay.{replay}
 

@@ -19,12 +19,12 @@ use Rattle.kinds.specs.declared.status.Status.{Status}
 use Rattle.records.specs.declared.Record.{Record}
 use Rattle.records.specs.declared.Reading.{Reading}
 use Rattle.layout.specs.Bytes.{two}
-use Rattle.layout.specs.Block.{RECORDS-AT, USED-MOST, AREA, CHECK-AT, headOf, usedInRange, headBytes, checkedBytes, blockBytes}
-use Rattle.layout.specs.BlockLaws.{head-length, checked-length, block-intact, block-head}
+use Rattle.blocks.specs.Block.{RECORDS-AT, USED-MOST, AREA, CHECK-AT, headOf, usedInRange, headBytes, checkedBytes, blockBytes}
+use Rattle.blocks.specs.BlockLaws.{head-length, checked-length, block-intact, block-head}
 use Rattle.layout.specs.Record.{RECORD, readRecord, recordsBytes}
 use Rattle.layout.specs.RecordLaws.{records-bytes-append}
-use Rattle.layout.specs.Zeros.{zerosBetween}
-use Rattle.layout.specs.declared.block.Head.{Head}
+use Rattle.blocks.specs.Zeros.{zerosBetween}
+use Rattle.blocks.specs.declared.block.Head.{Head}
 use Rattle.draft.specs.declared.Draft.{Draft}
 use Rattle.manager.specs.Log.{blankArea, areaWith}
 use Rattle.reader.specs.Content.{place, reads, contentOf}

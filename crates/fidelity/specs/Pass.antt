@@ -17,7 +17,7 @@ use Rattle.state.specs.declared.State.{State}
 use Rattle.kinds.specs.declared.answer.Answer.{Answer}
 use Rattle.records.specs.declared.Reading.{Reading}
 use Rattle.layout.specs.Bytes.{AreBytes, u16At}
-use Rattle.layout.specs.Block.{RECORDS-AT, CHECK-AT, BLOCK, headOf}
+use Rattle.blocks.specs.Block.{RECORDS-AT, CHECK-AT, BLOCK, headOf}
 use Rattle.layout.specs.Record.{RECORD, readRecord}
 use Rattle.manager.specs.Manager.{Outcome, freshManager, stepped, flushedOf, steppedOf}
 use Rattle.manager.specs.declared.Manager.{Manager}

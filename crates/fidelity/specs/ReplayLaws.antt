@@ -11,7 +11,7 @@ use lib.ListN.{length, length-append}
 use lib.Dec.{eqb}
 use Rattle.kinds.specs.Choice.{every}
 use Rattle.kinds.specs.ChoiceLaws.{and-left, and-right, chosen-either}
-use Rattle.state.specs.State.{sound}
+use Rattle.soundness.specs.Sound.{sound}
 use Rattle.state.specs.Effect.{effect, effects}
 use Rattle.state.specs.EffectLaws.{effect-count}
 use Rattle.records.specs.Record.{MOST-RECORDS, partsOfRecord, recordInRange, isStatus, notStatus, vFits}

@@ -22,10 +22,10 @@ use Rattle.kinds.specs.declared.answer.Answer.{Answer}
 use Rattle.events.specs.declared.Event.{Event}
 use Rattle.events.specs.declared.FoundEvent.{FoundEvent}
 use Rattle.layout.specs.Bytes.{AreBytes}
-use Rattle.layout.specs.Block.{USED-MOST, blockBytes, lentWhole}
+use Rattle.blocks.specs.Block.{USED-MOST, blockBytes, lentWhole}
 use Rattle.layout.specs.Event.{readEvent}
 use Rattle.layout.specs.EventLaws.{event-fits}
-use Rattle.layout.specs.declared.block.Head.{Head}
+use Rattle.blocks.specs.declared.block.Head.{Head}
 use Rattle.draft.specs.declared.Draft.{Draft}
 use Rattle.rules.specs.Ruling.{rulingOf}
 use Rattle.manager.specs.Log.{blankArea, fits, areaWith, headWith, headNext}

@@ -11,13 +11,14 @@ use Rattle.frame_check.specs.Check.{checkOf, taps, feedBit, feedBits, feed}
 use Rattle.state.specs.Effect.{effect}
 use Rattle.events.specs.Event.{eventOf, partsOfEvent}
 use Rattle.records.specs.Record.{partsOfRecord, recordOf}
-use Rattle.state.specs.State.{rebooted, sound, shapeSound, calibrationSound, physicsSound, tooSound, bootSound}
+use Rattle.state.specs.State.{rebooted}
+use Rattle.soundness.specs.Sound.{sound, shapeSound, calibrationSound, physicsSound, tooSound, bootSound}
 use Rattle.kinds.specs.Kinds.{modeNumber}
 use Rattle.layout.specs.Bytes.{u16At, u32At, two, four}
-use Rattle.layout.specs.Block.{BLOCK, headOf, intact, headBytes, checkedBytes, blockBytes}
+use Rattle.blocks.specs.Block.{BLOCK, headOf, intact, headBytes, checkedBytes, blockBytes}
 use Rattle.layout.specs.Event.{eventPartsAt, readEvent}
 use Rattle.layout.specs.Record.{recordPartsAt, readRecord, recordPartsBytes, recordBytes}
-use Rattle.layout.specs.Zeros.{allZero, zerosBetween}
+use Rattle.blocks.specs.Zeros.{allZero, zerosBetween}
 use Rattle.draft.specs.Draft.{blank, emitted, emits}
 use Rattle.rules.specs.Rules.{ruleOf, unheard, verdictOf}
 use Rattle.rules.specs.Ruling.{rulingOf}

@@ -4,6 +4,3 @@ pub mod Event
 pub mod EventLaws
 pub mod Record
 pub mod RecordLaws
-pub mod Block
-pub mod BlockLaws
-pub mod Zeros

@@ -2,10 +2,10 @@
 // found, and `same` or DIFFERENT with what was expected.
 ghost use Prim.Native.Nat.{_≤_};
 ghost use lib.ListN.{length};
+use blocks::Head;
 use events::Event;
 use events::FoundEvent;
 use kinds::Status;
-use layout::Head;
 use libc::STDOUT_FILENO;
 use records::Reading;
 use records::Record;
@@ -89,7 +89,7 @@ fn writing() {
     let expected = by_hand(2);
     let area = area();
     let mut lent = [0xAAu8; 512];
-    let answer = layout::write_block(head(), &area, &mut lent);
+    let answer = blocks::write_block(head(), &area, &mut lent);
     yes_or_no(b"512 bytes lent, written", true, answer);
     yes_or_no(
         b"the block, as by hand",
@@ -98,7 +98,7 @@ fn writing() {
     );
     let mut short = [0xAAu8; 511];
     let untouched = [0xAAu8; 511];
-    let refused = layout::write_block(head(), &area, &mut short);
+    let refused = blocks::write_block(head(), &area, &mut short);
     yes_or_no(b"511 bytes lent, written", false, refused);
     yes_or_no(
         b"511 bytes lent, as before",
@@ -127,12 +127,12 @@ fn reading() {
 
 fn read(name: &[u8], block: &[u8], intact: bool, length: u64) {
     io::write_all(STDOUT_FILENO, name);
-    yes_or_no(b", intact", intact, layout::intact(block));
+    yes_or_no(b", intact", intact, blocks::intact(block));
     io::write_all(STDOUT_FILENO, name);
     number(
         b", length of the records",
         length,
-        layout::records(block).len() as u64,
+        blocks::records(block).len() as u64,
     );
 }
 
@@ -146,12 +146,12 @@ fn read_cut(block: &[u8])
 // The head of a block, and of a string that is too short for one.
 fn heads() {
     let block = by_hand(2);
-    let whole = layout::read_head(&block);
+    let whole = blocks::read_head(&block);
     number(b"log number", 16909060, whole.number as u64);
     number(b"block number", 5, whole.block as u64);
     number(b"records used", 2, whole.used as u64);
     number(b"count before", 7, whole.before as u64);
-    let short = layout::read_head(&[0xFF; 13]);
+    let short = blocks::read_head(&[0xFF; 13]);
     number(b"13 bytes, log number", 0, short.number as u64);
     number(b"13 bytes, count before", 0, short.before as u64);
 }

@@ -1,8 +1,8 @@
 // Events through a fresh manager: a line an event (One listing, whole).
+use blocks::BLOCK;
+use blocks::Head;
 use kinds::Answer;
-use layout::BLOCK;
 use layout::EVENT;
-use layout::Head;
 use libc::STDOUT_FILENO;
 use manager::Manager;
 use state::State;

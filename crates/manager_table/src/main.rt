@@ -1,9 +1,9 @@
 // Runs the manager on sequences that fill its log to the record, on flushes, and on every refusal in its order, with 0xAA in every
 // lent byte. A line for each operation: the answer's number, the log and the count after it, and what stayed as it was; and a line
 // for each block that was written, held to one that is put together by hand with its check worked out bit by bit.
+use blocks::Head;
 use events::Event;
 use kinds::Mode;
-use layout::Head;
 use libc::STDOUT_FILENO;
 use manager::Manager;
 use manager::Stepped;
@@ -300,8 +300,8 @@ fn show(name: &[u8], before: Manager, done: Stepped, lent: &[u8]) {
 
 fn show_block(written: bool, lent: &[u8], expected: &[u8]) {
     if written {
-        let head = layout::read_head(lent);
-        yes_or_no(b"  the block: intact ", layout::intact(lent));
+        let head = blocks::read_head(lent);
+        yes_or_no(b"  the block: intact ", blocks::intact(lent));
         number(b"; log ", head.number as u64);
         number(b", block ", head.block as u64);
         number(b", used ", head.used as u64);

@@ -6,7 +6,7 @@ use mathlib.Core.List.{List, [], _∷_, _++_}
 use lib.Dec.{eqb}
 use Rattle.kinds.specs.Choice.{if_then_else_}
 use Rattle.events.specs.Event.{partsOfEvent, STARTED}
-use Rattle.records.specs.Record.{WAIT-SHORT, WAIT-LONG, ALERT-SHED, dwellInRange, maskInRange}
+use Rattle.ranges.specs.Ranges.{WAIT-SHORT, WAIT-LONG, ALERT-SHED, dwellInRange, maskInRange}
 use Rattle.kinds.specs.declared.mode.Mode.{Mode}
 use Rattle.kinds.specs.declared.task.Task.{Task}
 use Rattle.kinds.specs.declared.lpa_mode.LpaMode.{LpaMode}

@@ -9,35 +9,35 @@ use kinds::TooState;
 use records::Record;
 use state::State;
 
-pub(crate) fn in_mode(s: State, other: Mode) -> bool
+pub fn in_mode(s: State, other: Mode) -> bool
     ensures { λ r. ⌜ r ≡ inMode s other ⌝ }
 {
     let mode = s.mode;
     mode.is(other)
 }
 
-pub(crate) fn lci_is(s: State, other: Task) -> bool
+pub fn lci_is(s: State, other: Task) -> bool
     ensures { λ r. ⌜ r ≡ lciIs s other ⌝ }
 {
     let lci = s.lci;
     lci.is(other)
 }
 
-pub(crate) fn lpa_is(s: State, other: Task) -> bool
+pub fn lpa_is(s: State, other: Task) -> bool
     ensures { λ r. ⌜ r ≡ lpaIs s other ⌝ }
 {
     let lpa = s.lpa;
     lpa.is(other)
 }
 
-pub(crate) fn too_is(s: State, other: TooState) -> bool
+pub fn too_is(s: State, other: TooState) -> bool
     ensures { λ r. ⌜ r ≡ tooIs s other ⌝ }
 {
     let too = s.too;
     too.is(other)
 }
 
-pub(crate) fn stop_calibration(s: State, draft: Draft) -> Draft
+pub fn stop_calibration(s: State, draft: Draft) -> Draft
     ensures { λ r. ⌜ r ≡ emits draft (stopCalibration s) ⌝ }
 {
     if lci_is(s, Task::Running) {
@@ -48,7 +48,7 @@ pub(crate) fn stop_calibration(s: State, draft: Draft) -> Draft
     draft
 }
 
-pub(crate) fn stop_physics(s: State, draft: Draft) -> Draft
+pub fn stop_physics(s: State, draft: Draft) -> Draft
     ensures { λ r. ⌜ r ≡ emits draft (stopPhysics s) ⌝ }
 {
     if lpa_is(s, Task::Running) {
@@ -59,7 +59,7 @@ pub(crate) fn stop_physics(s: State, draft: Draft) -> Draft
     draft
 }
 
-pub(crate) fn end_too(s: State, draft: Draft) -> Draft
+pub fn end_too(s: State, draft: Draft) -> Draft
     ensures { λ r. ⌜ r ≡ emits draft (endToo s) ⌝ }
 {
     if in_mode(s, Mode::Too) {

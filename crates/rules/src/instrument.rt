@@ -32,7 +32,7 @@ use kinds::Task;
 use records::Record;
 use state::State;
 
-pub(crate) fn started(s: State) -> Ruling
+pub fn started(s: State) -> Ruling
     ensures { λ r. ⌜ r ≡ ruledAs s (decide (started s)) ⌝ }
 {
     if !in_mode(s, Mode::Boot) {
@@ -43,7 +43,7 @@ pub(crate) fn started(s: State) -> Ruling
         .done(Status::Success)
 }
 
-pub(crate) fn main_feed_on(s: State) -> Ruling
+pub fn main_feed_on(s: State) -> Ruling
     ensures { λ r. ⌜ r ≡ ruledAs s (decide (mainFeedOn s)) ⌝ }
 {
     if !in_mode(s, Mode::Terminal) {
@@ -65,13 +65,13 @@ fn configured(s: State) -> Record
     }
 }
 
-pub(crate) fn power_on(s: State, mask: u32) -> Ruling
+pub fn power_on(s: State, mask: u32) -> Ruling
     ensures { λ r. ⌜ r ≡ ruledAs s (decide (powerOn s mask)) ⌝ }
 {
     if !in_mode(s, Mode::Quiescent) {
         return refused(s, Status::BadMode);
     }
-    if mask == 0 {
+    if !ranges::mask_in_range(mask) {
         return refused(s, Status::BadParam);
     }
     blank(s)
@@ -80,13 +80,13 @@ pub(crate) fn power_on(s: State, mask: u32) -> Ruling
         .done(Status::Success)
 }
 
-pub(crate) fn power_off(s: State, mask: u32) -> Ruling
+pub fn power_off(s: State, mask: u32) -> Ruling
     ensures { λ r. ⌜ r ≡ ruledAs s (decide (powerOff s mask)) ⌝ }
 {
     if !in_mode(s, Mode::Quiescent) {
         return refused(s, Status::BadMode);
     }
-    if mask == 0 {
+    if !ranges::mask_in_range(mask) {
         return refused(s, Status::BadParam);
     }
     blank(s)
@@ -94,7 +94,7 @@ pub(crate) fn power_off(s: State, mask: u32) -> Ruling
         .done(Status::Success)
 }
 
-pub(crate) fn hold_enter(s: State) -> Ruling
+pub fn hold_enter(s: State) -> Ruling
     ensures { λ r. ⌜ r ≡ ruledAs s (decide (holdEnter s)) ⌝ }
 {
     let quiet = in_mode(s, Mode::Quiescent) | in_mode(s, Mode::Calibration);
@@ -107,7 +107,7 @@ pub(crate) fn hold_enter(s: State) -> Ruling
     draft.emit(Record::OpMode(Mode::Hold)).done(Status::Success)
 }
 
-pub(crate) fn hold_exit(s: State) -> Ruling
+pub fn hold_exit(s: State) -> Ruling
     ensures { λ r. ⌜ r ≡ ruledAs s (decide (holdExit s)) ⌝ }
 {
     if !in_mode(s, Mode::Hold) {
@@ -118,11 +118,11 @@ pub(crate) fn hold_exit(s: State) -> Ruling
         .done(Status::Success)
 }
 
-pub(crate) fn saa_enter(s: State) -> Ruling
+pub fn saa_enter(s: State) -> Ruling
     ensures { λ r. ⌜ r ≡ ruledAs s (decide (saaEnter s)) ⌝ }
 {
     let wait = Record::Wait {
-        seconds: Record::WAIT_LONG,
+        seconds: ranges::WAIT_LONG,
     };
     stop_physics(s, blank(s).emit(Record::SaaChange(true)))
         .emit_if(lpa_is(s, Task::Running), wait)
@@ -130,7 +130,7 @@ pub(crate) fn saa_enter(s: State) -> Ruling
         .done(Status::Success)
 }
 
-pub(crate) fn saa_exit(s: State) -> Ruling
+pub fn saa_exit(s: State) -> Ruling
     ensures { λ r. ⌜ r ≡ ruledAs s (decide (saaExit s)) ⌝ }
 {
     blank(s)
@@ -139,11 +139,11 @@ pub(crate) fn saa_exit(s: State) -> Ruling
         .done(Status::Success)
 }
 
-pub(crate) fn load_shed(s: State) -> Ruling
+pub fn load_shed(s: State) -> Ruling
     ensures { λ r. ⌜ r ≡ ruledAs s (decide (loadShed s)) ⌝ }
 {
     let alert = Record::Alert {
-        number: Record::ALERT_SHED,
+        number: ranges::ALERT_SHED,
     };
     let draft = stop_calibration(s, blank(s).emit(alert));
     let draft = stop_physics(s, draft);
@@ -154,10 +154,10 @@ fn shed(draft: Draft) -> Draft
     ensures { λ r. ⌜ r ≡ emits draft shedding ⌝ }
 {
     let long = Record::Wait {
-        seconds: Record::WAIT_LONG,
+        seconds: ranges::WAIT_LONG,
     };
     let short = Record::Wait {
-        seconds: Record::WAIT_SHORT,
+        seconds: ranges::WAIT_SHORT,
     };
     draft
         .emit(Record::LtcStop)
@@ -168,7 +168,7 @@ fn shed(draft: Draft) -> Draft
         .emit(short)
 }
 
-pub(crate) fn no_op(s: State) -> Ruling
+pub fn no_op(s: State) -> Ruling
     ensures { λ r. ⌜ r ≡ ruledAs s (decide (noOp s)) ⌝ }
 {
     if in_mode(s, Mode::Hold) {

@@ -1,4 +1,3 @@
 pub mod State
-pub mod StateLaws
 pub mod Effect
 pub mod EffectLaws

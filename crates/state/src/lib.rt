@@ -1,6 +1,5 @@
-// The state of the instrument (State): fresh, and with one field changed. When it is sound, and what a record does to it, stand beside.
+// The state of the instrument (State): fresh, and with one field changed; what a record does to it stands beside.
 mod effect;
-mod sound;
 
 ghost use mathlib.Core.Path.{_≡_};
 ghost use Rattle.state.specs.State.{

@@ -1,7 +1,6 @@
 -- `power_off`: each way out is its case of the rule.
 -- Assumes nothing.
 use borrow.Author.Needs.{needs}
-use borrow.Author.Tests.{ne-eqb}
 use Rattle.draft.specs.DraftLaws.{emitting}
 use Rattle.rules.proofs.instrument.power_off.Statement.{statement}
 use Rattle.rules.proofs.instrument.power_off.Tie as tie
@@ -14,8 +13,9 @@ power-off-spec =
     (λ c κs. search needs)
     (λ c. simp (c .before .if1 .taken, ← c .before .before .in-mode .ensures) (c .refused .ensures))
     (λ c κs. search needs)
-    (λ c. simp (c .before .if2 .taken, c .before .before .if1 .left, ← c .before .before .before .in-mode .ensures) (c .refused2 .ensures))
+    (λ c κs. search needs)
+    (λ c. simp (c .before .if2 .taken, ← c .before .before .mask-in-range .ensures, c .before .before .before .if1 .left, ← c .before .before .before .before .in-mode .ensures) (c .refused2 .ensures))
     (λ c κs. search needs)
     (λ c κs. search needs)
     (λ c κs. search needs)
-    (λ c. simp (ne-eqb _ _ (c .before .before .before .if2 .left), c .before .before .before .before .if1 .left, ← c .before .before .before .before .before .in-mode .ensures) (simp (c .done .ensures, c .before .emit .ensures, c .before .before .blank .ensures, emitting))))
+    (λ c. simp (c .before .before .before .if2 .left, ← c .before .before .before .before .mask-in-range .ensures, c .before .before .before .before .before .if1 .left, ← c .before .before .before .before .before .before .in-mode .ensures) (simp (c .done .ensures, c .before .emit .ensures, c .before .before .blank .ensures, emitting))))

@@ -1,7 +1,6 @@
 -- `power_on`: each way out is its case of the rule.
 -- Assumes nothing.
 use borrow.Author.Needs.{needs}
-use borrow.Author.Tests.{ne-eqb}
 use Rattle.draft.specs.DraftLaws.{emitting}
 use Rattle.rules.proofs.instrument.power_on.Statement.{statement}
 use Rattle.rules.proofs.instrument.power_on.Tie as tie
@@ -14,10 +13,11 @@ power-on-spec =
     (λ c κs. search needs)
     (λ c. simp (c .before .if1 .taken, ← c .before .before .in-mode .ensures) (c .refused .ensures))
     (λ c κs. search needs)
-    (λ c. simp (c .before .if2 .taken, c .before .before .if1 .left, ← c .before .before .before .in-mode .ensures) (c .refused2 .ensures))
+    (λ c κs. search needs)
+    (λ c. simp (c .before .if2 .taken, ← c .before .before .mask-in-range .ensures, c .before .before .before .if1 .left, ← c .before .before .before .before .in-mode .ensures) (c .refused2 .ensures))
     (λ c κs. search needs)
     (λ c κs. search needs)
     (λ c κs. search needs)
     (λ c κs. search needs)
     (λ c κs. search needs)
-    (λ c. simp (ne-eqb _ _ (c .before .before .before .before .before .if2 .left), c .before .before .before .before .before .before .if1 .left, ← c .before .before .before .before .before .before .before .in-mode .ensures) (simp (c .done .ensures, c .before .emit2 .ensures, c .before .before .configured .ensures, c .before .before .before .emit .ensures, c .before .before .before .before .blank .ensures, emitting))))
+    (λ c. simp (c .before .before .before .before .before .if2 .left, ← c .before .before .before .before .before .before .mask-in-range .ensures, c .before .before .before .before .before .before .before .if1 .left, ← c .before .before .before .before .before .before .before .before .in-mode .ensures) (simp (c .done .ensures, c .before .emit2 .ensures, c .before .before .configured .ensures, c .before .before .before .emit .ensures, c .before .before .before .before .blank .ensures, emitting))))

@@ -1,0 +1,10 @@
+-- Clause (b) of soundness.
+-- Assumes nothing.
+use borrow.Author.Needs.{needs}
+use Rattle.soundness.specs.Sound.{physicsSound}
+use Rattle.soundness.proofs.physics_sound.Statement.{statement}
+use Rattle.soundness.proofs.physics_sound.Tie as tie
+
+pub physics-sound-spec : {M : Type 1} → statement M
+unfolding physicsSound
+physics-sound-spec = tie.close (tie.spec (λ c κs. search needs) (λ c κs. search needs) (λ c κs. search needs) (λ c κs. search needs) (λ c κs. search needs) (λ c κs. search needs) (λ c. cc))

@@ -1,0 +1,35 @@
+-- State, laws: the first state of all is sound and has counted nothing; a sound state is sound in its shape and in its numbers.
+-- Assumes nothing.
+use Prim.Native.Nat.{ℕ, _≤_}
+use mathlib.Core.Bool.{true}
+use mathlib.Core.Path.{_≡_, refl}
+use borrow.Author.Tests.{leb-true, le-leb}
+use Rattle.kinds.specs.ChoiceLaws.{and-left, and-right}
+use Rattle.state.specs.State.{rebooted, fresh, withCount}
+use Rattle.state.specs.declared.State.{State}
+use Rattle.soundness.specs.Sound.{calibrationSound, physicsSound, tooSound, bootSound, shapeSound, numbersSound, sound}
+
+pub fresh-sound : sound fresh ≡ true
+unfolding sound shapeSound calibrationSound physicsSound tooSound bootSound rebooted
+fresh-sound = refl
+
+pub fresh-count : fresh .count ≡ 0
+unfolding rebooted
+fresh-count = refl
+
+pub sound-shape : (s : State) → sound s ≡ true → shapeSound s ≡ true
+unfolding sound
+sound-shape s ok = and-left (shapeSound s) (numbersSound s) ok
+
+pub sound-armed : (s : State) → sound s ≡ true → s .armed ≤ s .count
+unfolding sound
+sound-armed s ok = leb-true (s .armed) (s .count) (and-right (shapeSound s) (numbersSound s) ok)
+
+pub sound-from : (s : State) → shapeSound s ≡ true → s .armed ≤ s .count → sound s ≡ true
+unfolding sound
+sound-from s shape low = rw (shape, le-leb (s .armed) (s .count) low)
+
+-- the shape does not look at the count
+pub shape-count : (s : State) (n : ℕ) → shapeSound (withCount s n) ≡ shapeSound s
+unfolding shapeSound calibrationSound physicsSound tooSound bootSound
+shape-count s n = refl
