@@ -13,7 +13,7 @@ unfolding eventOf
 of-spec =
     tie.close
     (tie.spec
-    (λ c. simp (ne-eqb _ _ (c .if1 .taken)))
+    (λ c. simp (ne-eqb _ 0 (c .if1 .taken)))
     (λ c κs. search needs)
     (λ c κs. search needs)
     (λ c κs. search needs)

@@ -2,7 +2,7 @@
 -- Assumes nothing.
 use borrow.Author.Needs.{needs}
 use borrow.Author.Tests.{ne-eqb}
-use Rattle.layout.specs.Event.{readEvent, eventPartsAt}
+use Rattle.layout.specs.Event.{EVENT, readEvent, eventPartsAt}
 use Rattle.layout.proofs.event.read_event.Statement.{statement}
 use Rattle.layout.proofs.event.read_event.Tie as tie
 
@@ -11,7 +11,7 @@ unfolding readEvent eventPartsAt
 read-event-spec =
     tie.close
     (tie.spec
-    (λ c. simp (ne-eqb _ _ (c .if1 .taken)))
+    (λ c. simp (ne-eqb _ EVENT (c .if1 .taken)))
     (λ c κs. search needs)
     (λ c κs. search needs)
     (λ c κs. search needs)
