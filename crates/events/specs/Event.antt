@@ -110,6 +110,9 @@ partsOfEvent Event.CalComplete = eventParts CALCOMPLETE 0 0
 partsOfEvent (Event.LpaStatus good) = eventParts LPASTATUS (flagNumber good) 0
 partsOfEvent Event.LpaComplete = eventParts LPACOMPLETE 0 0
 
+abbrev pub isStarted : Event → Bool
+isStarted e = eqb (partsOfEvent e .code) STARTED
+
 -- an event that names neither a nor b
 abbrev pub bareEvent : Event → ℕ → ℕ → FoundEvent
 bareEvent e a b = if eqb a 0 then if eqb b 0 then FoundEvent.Found e else FoundEvent.Unknown else FoundEvent.Unknown

@@ -1,6 +1,6 @@
 // The events that the manager takes, their codes and their numbers (Events).
 ghost use mathlib.Core.Path.{_≡_};
-ghost use Rattle.events.specs.Event.{partsOfEvent, eventOf, eventParts, bareEvent, singleEvent, reportEvent};
+ghost use Rattle.events.specs.Event.{isStarted, partsOfEvent, eventOf, eventParts, bareEvent, singleEvent, reportEvent};
 ghost use Rattle.kinds.specs.Kinds.{flagOf};
 use kinds::flag;
 use kinds::flag::FoundFlag;
@@ -166,6 +166,13 @@ impl Event {
             Event::LPACOMPLETE => bare(Event::LpaComplete, a, b),
             _ => FoundEvent::Unknown,
         }
+    }
+
+    // The one event that is heard in BOOT.
+    pub fn is_started(self) -> bool
+        ensures { λ r. ⌜ r ≡ isStarted self ⌝ }
+    {
+        self.taken_apart().code == Event::STARTED
     }
 }
 

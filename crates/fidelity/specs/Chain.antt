@@ -16,7 +16,7 @@ use Rattle.fidelity.specs.Pass.{At, lastIn}
 pub record Link (number n : ℕ) (s : State) (b : List ℕ) (t : State) : Type 0 where
   pub whole : intact b ≡ true
   pub log : headOf b .number ≡ number
-  pub place : headOf b .block ≡ n
+  pub turn : headOf b .block ≡ n
   pub earlier : headOf b .block ≡ LAST-NUMBER → ⊥
   pub content : contentOf s b ≡ Content.Right t
   pub last : lastIn b ≡ t .count

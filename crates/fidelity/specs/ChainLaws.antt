@@ -60,7 +60,7 @@ link-at log m same e link =
     record {
       whole = link .whole;
       log = link .log ∙ same;
-      place = link .place ∙ e;
+      turn = link .turn ∙ e;
       earlier = link .earlier;
       content = link .content;
       last = link .last;
@@ -96,8 +96,8 @@ member-link to below link =
       whole = link .whole;
       log = link .log;
       earlier = link .earlier;
-      low = omega (arith, link .place);
-      high = omega (arith, link .place);
+      low = omega (arith, link .turn);
+      high = omega (arith, link .turn);
     }
 
 member-wider : {number from to : ℕ} {b : List ℕ} (low high : ℕ) → low ≤ from → to ≤ high → Member number from to b → Member number low high b

@@ -12,7 +12,7 @@
 --          fresh state if there are none: complete.
 -- The operations and the delivery are any, so each of the three holds at every moment.
 --
--- `runOf` and `groundOf` are folds of `stepped`, `flushedOf` and `readOf`, the definitions that the contracts of `manager::step`,
+-- `runOf` and `groundOf` are folds of `managerStep`, `managerFlush` and `readOf`, the definitions that the contracts of `manager::step`,
 -- `manager::flush` and `reader::read` cite: what is said here is said of the code. Their words stand in Pass. It is proved in Proof;
 -- RunLaws proves besides that state n of a run is one in which n events are counted (run-numbered).
 --

@@ -179,7 +179,7 @@ module _ (number : ℕ) (states : List State) (blocks : List (List ℕ)) (end : 
           }
 
       first : (r : List (List ℕ)) → Chain number states (w .reader .next) (w .reader .state) (b ∷ r) end → ⊥
-      first r chain = omega (arith, chain .1 .place)
+      first r chain = omega (arith, chain .1 .turn)
 
       passed : (bs : List (List ℕ)) → Sublistᴰ (f .rest) bs ⊎ ((r : List (List ℕ)) × (f .rest ≡ b ∷ r) × Sublistᴰ r bs) → Sublistᴰ (f .rest) bs
       passed bs (inl s) = s
@@ -201,7 +201,7 @@ module _ (number : ℕ) (states : List State) (blocks : List (List ℕ)) (end : 
 
       turn : readOf (w .reader) b ≡ answered (onward (w .reader) after) Reply.Applied
       turn =
-          read-in-turn (w .reader) b (f .own) (link .whole) (link .log ∙ sym (f .log)) (link .earlier) (link .place)
+          read-in-turn (w .reader) b (f .own) (link .whole) (link .log ∙ sym (f .log)) (link .earlier) (link .turn)
           ∙ ap (inTurn (w .reader)) (link .content)
 
       heard : ℕ
@@ -217,7 +217,7 @@ module _ (number : ℕ) (states : List State) (blocks : List (List ℕ)) (end : 
       still c later m = either (List·Memᴰ·cases-cons (rw e at m))
         where
           either : (c ≡ b) ⊎ List·Memᴰ c more → List·Memᴰ c more
-          either (inl this) = absurd (omega (arith, link .place, ap (λ (x : List ℕ). headOf x .block) this))
+          either (inl this) = absurd (omega (arith, link .turn, ap (λ (x : List ℕ). headOf x .block) this))
           either (inr m′) = m′
 
       Behind : ℕ → Type 0
@@ -247,7 +247,7 @@ module _ (number : ℕ) (states : List State) (blocks : List (List ℕ)) (end : 
             low = behind;
             high =
                 λ c n n′. met-cases (λ (x : List ℕ). headOf x .block < heard) c
-                (λ before. omega (arith, f .high c (in-rest c n) before, most .0)) (omega (arith, link .place, most .1)) n′;
+                (λ before. omega (arith, f .high c (in-rest c n) before, most .0)) (omega (arith, link .turn, most .1)) n′;
           }
 
       passed : (bs : List (List ℕ)) → Sublistᴰ (b ∷ more) bs ⊎ ((b ≡ b) × Sublistᴰ more bs) → Sublistᴰ more bs

@@ -2,8 +2,8 @@
 -- put together from the laws of the book; the other files of this crate name no rule, and open neither a verdict, nor `sound`, nor `effect`. A new
 -- event, rule, mode or record is paid for in the book and does not touch this crate.
 --
--- Of the book: script-form, records-no-status, records-length, script-range, script-fits, next-count, next-sound, ruling-held,
--- ruling-state, ruling-count, ruling-bytes.
+-- Of the book: script-form, records-no-status, records-length, script-range, script-fits, next-count, next-sound, ruling-sized,
+-- ruling-state, ruling-used, ruling-bytes.
 -- Of the state: one-more-below; effect-count (no record but STATUS changes the count). Opened: `rebooted`, that fresh has count 0, and `partsOfRecord`
 -- at STATUS, that v is the event's number.
 -- Of the layouts and blocks: event-fits (an event that is read from bytes has 32-bit numbers); record-read, record-bytes-length, records-bytes-append; head-length,
@@ -44,6 +44,6 @@ pub record Ruled (s : State) (d : Draft) : Type 0 where
   pub sound : sound (effects s (whole s actions status)) ≡ true
   pub number : effects s (whole s actions status) .count ≡ s .count + 1
   pub state : d .state ≡ effects s (whole s actions status)
-  pub count : d .count ≡ length (whole s actions status)
-  pub bytes : take (RECORD * d .count) (d .bytes) ≡ recordsBytes (whole s actions status)
+  pub used : d .used ≡ length (whole s actions status)
+  pub bytes : take (RECORD * d .used) (d .bytes) ≡ recordsBytes (whole s actions status)
   pub long : length (d .bytes) ≡ ROOM

@@ -20,8 +20,8 @@ use Rattle.state.specs.declared.State.{State}
 use Rattle.rules.specs.Rules.{verdictOf}
 use Rattle.rules.specs.Script.{script, next}
 use Rattle.rules.specs.Ruling.{rulingOf}
-use Rattle.book.specs.Book.{script-form, records-no-status, records-length, script-range, script-fits, next-count, next-sound}
-use Rattle.book.specs.Book.{ruling-held, ruling-state, ruling-count, ruling-bytes}
+use Rattle.rule_laws.specs.RuleLaws.{script-form, records-no-status, records-length, script-range, script-fits, next-count, next-sound}
+use Rattle.rule_laws.specs.RuleLaws.{ruling-sized, ruling-state, ruling-used, ruling-bytes}
 use Rattle.fidelity.specs.Interface.{whole, Ruled}
 
 module _ (s : State) (e : Event) (ok : sound s ≡ true) (below : s .count < LAST-NUMBER) where
@@ -46,7 +46,7 @@ module _ (s : State) (e : Event) (ok : sound s ≡ true) (below : s .count < LAS
         sound = sym (ap sound next-whole) ∙ next-sound s e ok below;
         number = sym (ap (λ (t : State). t .count) next-whole) ∙ next-count s e below;
         state = ruling-state s e ok ∙ next-whole;
-        count = ruling-count s e ok ∙ ap length script-whole;
+        used = ruling-used s e ok ∙ ap length script-whole;
         bytes = ruling-bytes s e ok ∙ ap recordsBytes script-whole;
-        long = ruling-held s e .1;
+        long = ruling-sized s e .1;
       }

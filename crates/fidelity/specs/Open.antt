@@ -1,4 +1,4 @@
--- The open block: its records, as many as its head says, stand in its area, can be read back, and lead from the state at its
+-- The open block: its records, as many as its head says, stand in its records, can be read back, and lead from the state at its
 -- count-before to the present state. Whole events only: the last record, if there is one, closes the last event.
 -- Assumes nothing.
 use Prim.Native.Nat.{ℕ, _*_}
@@ -13,7 +13,7 @@ use Rattle.layout.specs.Record.{recordsBytes}
 use Rattle.state.specs.declared.State.{State}
 use Rattle.kinds.specs.declared.status.Status.{Status}
 use Rattle.records.specs.declared.Record.{Record}
-use Rattle.blocks.specs.Block.{AREA}
+use Rattle.blocks.specs.Block.{RECORDS}
 use Rattle.layout.specs.Record.{RECORD}
 use Rattle.blocks.specs.declared.block.Head.{Head}
 use Rattle.reader.specs.declared.content.Content.{Content}
@@ -23,13 +23,13 @@ use Rattle.fidelity.specs.Replay.{replay}
 abbrev pub Ends : ℕ → List Record → Type 0
 Ends n rs = (rs ≡ []) ⊎ ((front : List Record) × (x : Status) × (rs ≡ front ++ Record.Status x n ∷ []))
 
-pub record Open (s : State) (h : Head) (area : List ℕ) (t : State) : Type 0 where
-  pub records : List Record
-  pub full : length area ≡ AREA
-  pub stand : take (RECORD * length records) area ≡ recordsBytes records
-  pub used : h .used ≡ length records
-  pub range : every recordInRange records ≡ true
-  pub fit : every vFits records ≡ true
+pub record Open (s : State) (h : Head) (records : List ℕ) (t : State) : Type 0 where
+  pub logged : List Record
+  pub full : length records ≡ RECORDS
+  pub stand : take (RECORD * length logged) records ≡ recordsBytes logged
+  pub used : h .used ≡ length logged
+  pub range : every recordInRange logged ≡ true
+  pub fit : every vFits logged ≡ true
   pub before : h .before ≡ s .count
-  pub leads : replay 0 s records ≡ Content.Right t
-  pub ends : Ends (t .count) records
+  pub leads : replay 0 s logged ≡ Content.Right t
+  pub ends : Ends (t .count) logged

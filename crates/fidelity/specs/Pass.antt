@@ -14,12 +14,11 @@ use Rattle.kinds.specs.Choice.{if_then_else_}
 use Rattle.state.specs.State.{fresh}
 use Rattle.records.specs.Record.{partsOfRecord}
 use Rattle.state.specs.declared.State.{State}
-use Rattle.kinds.specs.declared.answer.Answer.{Answer}
 use Rattle.records.specs.declared.Reading.{Reading}
 use Rattle.layout.specs.Bytes.{AreBytes, u16At}
 use Rattle.blocks.specs.Block.{RECORDS-AT, CHECK-AT, BLOCK, headOf}
 use Rattle.layout.specs.Record.{RECORD, readRecord}
-use Rattle.manager.specs.Manager.{Outcome, freshManager, stepped, flushedOf, steppedOf}
+use Rattle.manager.specs.Manager.{Outcome, freshManager, isLogged, managerStep, managerFlush, answeredOf}
 use Rattle.manager.specs.declared.Manager.{Manager}
 use Rattle.reader.specs.Reader.{freshReader, readOf, replyNumber}
 use Rattle.reader.specs.declared.reader.Reader.{Reader}
@@ -48,22 +47,13 @@ pub record Run : Type 0 where
 abbrev pub freshRun : ℕ → Run
 freshRun number = record { manager = freshManager number; states = fresh ∷ []; blocks = [] }
 
--- an event is logged if it is answered with a status, be it that of a rule that turns it down; the other answers log nothing
-abbrev pub isLogged : Answer → Bool
-isLogged (Answer.Taken status) = true
-isLogged Answer.BadBuf = false
-isLogged Answer.BadEvent = false
-isLogged Answer.BadState = false
-isLogged Answer.Full = false
-isLogged Answer.Empty = false
-
 abbrev pub withWhen : {A : Type 0} → Bool → List A → A → List A
 withWhen happened xs x = if happened then xs ++ x ∷ [] else xs
 
 abbrev pub afterStep : Run → Outcome → Run
 afterStep r o =
     record {
-      manager = steppedOf o .manager;
+      manager = answeredOf o .manager;
       states = withWhen (isLogged (o .answer)) (r .states) (o .state);
       blocks = withWhen (o .written) (r .blocks) (o .lent);
     }
@@ -71,11 +61,11 @@ afterStep r o =
 -- a flush is no event: it adds no state
 abbrev pub afterFlush : Run → Outcome → Run
 afterFlush r o =
-    record { manager = steppedOf o .manager; states = r .states; blocks = withWhen (o .written) (r .blocks) (o .lent) }
+    record { manager = answeredOf o .manager; states = r .states; blocks = withWhen (o .written) (r .blocks) (o .lent) }
 
 abbrev pub afterOne : Run → Operation → Run
-afterOne r (stepping event lent) = afterStep r (stepped (r .manager) event lent)
-afterOne r (flushing lent) = afterFlush r (flushedOf (r .manager) lent)
+afterOne r (stepping event lent) = afterStep r (managerStep (r .manager) event lent)
+afterOne r (flushing lent) = afterFlush r (managerFlush (r .manager) lent)
 
 abbrev pub afterAll : Run → List Operation → Run
 afterAll r [] = r

@@ -10,15 +10,15 @@ use Rattle.state.specs.declared.State.{State}
 use Rattle.records.specs.declared.Record.{Record}
 use Rattle.records.specs.declared.Reading.{Reading}
 use Rattle.layout.specs.Record.{readRecord}
-use Rattle.reader.specs.Content.{taken, followed, place}
+use Rattle.reader.specs.Content.{wentBy, followed, recordAt}
 use Rattle.reader.specs.declared.content.Content.{Content}
 use Rattle.reader.specs.declared.content.Fault.{Fault}
 
 abbrev pub replay : ℕ → State → List Record → Content
 replay k s [] = if eqb k 0 then Content.Right s else Content.Wrong 0 Fault.Open
-replay k s (r ∷ rs) = followed 0 k (λ k′ s′. replay k′ s′ rs) (taken k s (Reading.Right r))
+replay k s (r ∷ rs) = followed 0 k (λ k′ s′. replay k′ s′ rs) (wentBy k s (Reading.Right r))
 
 -- these records stand in a block, from a position on
 abbrev pub StandIn : List ℕ → ℕ → List Record → Type 0
 StandIn b at [] = Unit {0}
-StandIn b at (r ∷ rs) = (readRecord b (place at) ≡ Reading.Right r) × StandIn b (at + 1) rs
+StandIn b at (r ∷ rs) = (readRecord b (recordAt at) ≡ Reading.Right r) × StandIn b (at + 1) rs

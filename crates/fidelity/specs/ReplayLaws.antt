@@ -21,7 +21,7 @@ use Rattle.records.specs.declared.Record.{Record}
 use Rattle.records.specs.declared.Reading.{Reading}
 use Rattle.layout.specs.Record.{recordBytes, recordsBytes}
 use Rattle.layout.specs.RecordLaws.{record-read, record-bytes-length}
-use Rattle.reader.specs.Content.{closed, taken, followed, place, reads}
+use Rattle.reader.specs.Content.{wentClosed, wentBy, followed, recordAt, reads}
 use Rattle.reader.specs.declared.content.Content.{Content}
 use Rattle.reader.specs.declared.content.Fault.{Fault}
 use Rattle.reader.specs.declared.content.Went.{Went}
@@ -54,7 +54,7 @@ reads-replay b [] at k s t stand right =
 reads-replay b (r ∷ rs) at k s t stand right =
     rw (stand .0)
     (followed-on at k (λ k′ s′. replay k′ s′ rs) (λ k′ s′. reads b (length rs) (at + 1) k′ s′) t (Content.Right t)
-    (λ k′ s′. reads-replay b rs (at + 1) k′ s′ t (stand .1)) (taken k s (Reading.Right r)) right)
+    (λ k′ s′. reads-replay b rs (at + 1) k′ s′ t (stand .1)) (wentBy k s (Reading.Right r)) right)
 
 pub replay-append : (xs ys : List Record) (k : ℕ) (s t : State) → replay k s xs ≡ Content.Right t
     → replay k s (xs ++ ys) ≡ replay 0 t ys
@@ -63,34 +63,34 @@ replay-append [] ys k s t right =
     λ i. replay (ended .0 i) (ended .1 i) ys
 replay-append (x ∷ xs) ys k s t right =
     followed-on 0 k (λ k′ s′. replay k′ s′ xs) (λ k′ s′. replay k′ s′ (xs ++ ys)) t (replay 0 t ys)
-    (λ k′ s′. replay-append xs ys k′ s′ t) (taken k s (Reading.Right x)) right
+    (λ k′ s′. replay-append xs ys k′ s′ t) (wentBy k s (Reading.Right x)) right
 
 -- The records of an event ------------------------------------------------------------------------------------------------------
 
-taken-on : (k : ℕ) (s : State) (r : Record) → k < MOST-RECORDS → isStatus r ≡ false
-    → taken k s (Reading.Right r) ≡ Went.On (effect s r)
-unfolding taken
-taken-on k s r few other = rw (lt-leb MOST-RECORDS k few, other)
+went-on : (k : ℕ) (s : State) (r : Record) → k < MOST-RECORDS → isStatus r ≡ false
+    → wentBy k s (Reading.Right r) ≡ Went.On (effect s r)
+unfolding wentBy
+went-on k s r few other = rw (lt-leb MOST-RECORDS k few, other)
 
-taken-status : (k : ℕ) (s : State) (x : Status) (n : ℕ) → k < MOST-RECORDS → n ≡ s .count + 1 → sound (effect s (Record.Status x n)) ≡ true
-    → taken k s (Reading.Right (Record.Status x n)) ≡ Went.Closed (effect s (Record.Status x n))
-unfolding taken closed partsOfRecord
-taken-status k s x n few next ok = rw (lt-leb MOST-RECORDS k few, eq-eqb n (s .count + 1) next, ok)
+went-status : (k : ℕ) (s : State) (x : Status) (n : ℕ) → k < MOST-RECORDS → n ≡ s .count + 1 → sound (effect s (Record.Status x n)) ≡ true
+    → wentBy k s (Reading.Right (Record.Status x n)) ≡ Went.Closed (effect s (Record.Status x n))
+unfolding wentBy wentClosed partsOfRecord
+went-status k s x n few next ok = rw (lt-leb MOST-RECORDS k few, eq-eqb n (s .count + 1) next, ok)
 
 pub replay-event : (rs : List Record) (k : ℕ) (s : State) (x : Status) (n : ℕ) → every notStatus rs ≡ true → k + length rs < MOST-RECORDS
     → n ≡ s .count + 1 → sound (effects s (rs ++ Record.Status x n ∷ [])) ≡ true
     → replay k s (rs ++ Record.Status x n ∷ []) ≡ Content.Right (effects s (rs ++ Record.Status x n ∷ []))
 replay-event [] k s x n quiet few next ok =
-    ap (followed 0 k (λ k′ s′. replay k′ s′ [])) (taken-status k s x n (omega arith) next ok)
+    ap (followed 0 k (λ k′ s′. replay k′ s′ [])) (went-status k s x n (omega arith) next ok)
 replay-event (r ∷ rs) k s x n quiet few next ok =
     let other : isStatus r ≡ false = not-true (isStatus r) (and-left (notStatus r) (every notStatus rs) quiet) in
-    ap (followed 0 k (λ k′ s′. replay k′ s′ (rs ++ Record.Status x n ∷ []))) (taken-on k s r (omega arith) other)
+    ap (followed 0 k (λ k′ s′. replay k′ s′ (rs ++ Record.Status x n ∷ []))) (went-on k s r (omega arith) other)
     ∙ replay-event rs (k + 1) (effect s r) x n (and-right (notStatus r) (every notStatus rs) quiet) (omega arith)
     (next ∙ sym (ap (λ (c : ℕ). c + 1) (effect-count s r other))) ok
 
 -- Records in a block -----------------------------------------------------------------------------------------------------------
 
-stand-at : (pre post : List ℕ) (rs : List Record) (at : ℕ) → length pre ≡ place at
+stand-at : (pre post : List ℕ) (rs : List Record) (at : ℕ) → length pre ≡ recordAt at
     → every recordInRange rs ≡ true → every vFits rs ≡ true → StandIn (pre ++ recordsBytes rs ++ post) at rs
 stand-at pre post [] at here range fit = tt
 stand-at pre post (r ∷ rs) at here range fit = (
@@ -104,6 +104,6 @@ stand-at pre post (r ∷ rs) at here range fit = (
       (and-right (vFits r) (every vFits rs) fit)),
 )
 
-pub stand-in : (b pre post : List ℕ) (rs : List Record) (at : ℕ) → b ≡ pre ++ recordsBytes rs ++ post → length pre ≡ place at
+pub stand-in : (b pre post : List ℕ) (rs : List Record) (at : ℕ) → b ≡ pre ++ recordsBytes rs ++ post → length pre ≡ recordAt at
     → every recordInRange rs ≡ true → every vFits rs ≡ true → StandIn b at rs
 stand-in b pre post rs at form here range fit = rw form (stand-at pre post rs at here range fit)

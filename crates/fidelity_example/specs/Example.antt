@@ -24,7 +24,7 @@ use Rattle.rules.specs.Rules.{ruleOf, unheard, verdictOf}
 use Rattle.rules.specs.Ruling.{rulingOf}
 use Rattle.manager.specs.Log.{logSound}
 use Rattle.manager.specs.Manager.{bothSound, stepOf, flushOf}
-use Rattle.reader.specs.Content.{closed, taken, reads, contentOf}
+use Rattle.reader.specs.Content.{wentClosed, wentBy, reads, contentOf}
 use Rattle.reader.specs.Reader.{readerSound, readOf, replyNumber, freshReader, isBehind}
 use Rattle.reader.specs.declared.reader.Reader.{Reader}
 use Rattle.reader.specs.declared.reply.Read.{Read}
@@ -64,7 +64,7 @@ display g (b ∷ bs) = shown (readOf g b) (λ g′. display g′ bs)
 
 -- what is to be computed through: all of the manager, the layouts, the rules that these events meet, and the reader
 computed : ℕ
-unfolding checkOf taps feedBit feedBits feed rebooted sound shapeSound calibrationSound physicsSound tooSound bootSound effect eventOf partsOfEvent partsOfRecord recordOf u16At u32At two four headOf intact headBytes checkedBytes blockBytes eventPartsAt readEvent recordPartsAt readRecord recordPartsBytes recordBytes allZero zerosBetween blank emitted emits ruleOf unheard verdictOf rulingOf logSound bothSound stepOf flushOf closed taken reads contentOf readerSound readOf runOf
+unfolding checkOf taps feedBit feedBits feed rebooted sound shapeSound calibrationSound physicsSound tooSound bootSound effect eventOf partsOfEvent partsOfRecord recordOf u16At u32At two four headOf intact headBytes checkedBytes blockBytes eventPartsAt readEvent recordPartsAt readRecord recordPartsBytes recordBytes allZero zerosBetween blank emitted emits ruleOf unheard verdictOf rulingOf logSound bothSound stepOf flushOf wentClosed wentBy reads contentOf readerSound readOf runOf
 computed = 0
 
 displayed : display (freshReader 7) (down (runOf 7 asked .blocks) (runOf 8 (take 2 asked) .blocks))

@@ -1,7 +1,8 @@
--- The specifications of `manager`: the log, and what a step, a flush and a run leave. Assumes nothing.
+-- The specifications of `manager`: the log, and what a step, a flush and many steps leave. Assumes nothing.
 pub mod Log
 pub mod LogLaws
 pub mod Manager
+pub mod CaseLaws
 pub mod ManagerLaws
-pub mod Run
-pub mod RunLaws
+pub mod Steps
+pub mod StepsLaws

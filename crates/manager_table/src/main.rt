@@ -5,8 +5,8 @@ use blocks::Head;
 use events::Event;
 use kinds::Mode;
 use libc::STDOUT_FILENO;
+use manager::Answered;
 use manager::Manager;
-use manager::Stepped;
 use state::State;
 
 fn main() {
@@ -281,7 +281,7 @@ fn flush_short(name: &[u8], m: Manager) {
 
 // Lines ----------------------------------------------------------------------------------------------------------------------
 
-fn show(name: &[u8], before: Manager, done: Stepped, lent: &[u8]) {
+fn show(name: &[u8], before: Manager, done: Answered, lent: &[u8]) {
     let answer = done.answer;
     let m = done.manager;
     let head = m.head;

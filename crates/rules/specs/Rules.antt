@@ -5,7 +5,7 @@ use mathlib.Core.Bool.{Bool, true, false, not, _&&_, _||_}
 use mathlib.Core.List.{List, [], _∷_, _++_}
 use lib.Dec.{eqb}
 use Rattle.kinds.specs.Choice.{if_then_else_}
-use Rattle.events.specs.Event.{partsOfEvent, STARTED}
+use Rattle.events.specs.Event.{isStarted}
 use Rattle.ranges.specs.Ranges.{WAIT-SHORT, WAIT-LONG, ALERT-SHED, dwellInRange, maskInRange}
 use Rattle.kinds.specs.declared.mode.Mode.{Mode}
 use Rattle.kinds.specs.declared.task.Task.{Task}
@@ -231,7 +231,7 @@ ruleOf s Event.LpaComplete = lpaComplete s
 
 -- in BOOT only STARTED is heard
 unfoldable pub unheard : State → Event → Bool
-unheard s e = inMode s Mode.Boot && not (eqb (partsOfEvent e .code) STARTED)
+unheard s e = inMode s Mode.Boot && not (isStarted e)
 
 -- what the book says of an event in a state
 unfoldable pub verdictOf : State → Event → Verdict

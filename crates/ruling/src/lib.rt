@@ -1,11 +1,11 @@
-// The book: every event in every state (Mode rules, Records).
+// Every event in every state: whether it is heard, its rule, its STATUS (Mode rules, Records).
 ghost use mathlib.Core.Path.{_≡_};
 ghost use Rattle.rules.specs.Rule.{decide};
 ghost use Rattle.rules.specs.Rules.{ruleOf, unheard, verdictOf};
 ghost use Rattle.rules.specs.Ruling.{ruledAs, rulingOf};
 use draft::Ruling;
-use draft::closed;
 use draft::refused;
+use draft::with_status;
 use events::Event;
 use kinds::Mode;
 use kinds::Status;
@@ -41,7 +41,7 @@ pub fn ruled(state: State, event: Event) -> Ruling
     ensures { λ r. ⌜ r ≡ rulingOf state event ⌝ }
 {
     let said = heard(state, event);
-    closed(said, state::one_more(state.count))
+    with_status(said, state::one_more(state.count))
 }
 
 fn heard(s: State, event: Event) -> Ruling
@@ -56,8 +56,7 @@ fn heard(s: State, event: Event) -> Ruling
 fn unheard(s: State, event: Event) -> bool
     ensures { λ r. ⌜ r ≡ unheard s event ⌝ }
 {
-    let parts = event.taken_apart();
-    in_mode(s, Mode::Boot) & !(parts.code == Event::STARTED)
+    in_mode(s, Mode::Boot) & !event.is_started()
 }
 
 fn by_rule(s: State, event: Event) -> Ruling

@@ -13,4 +13,4 @@ ruled-spec =
     (λ c κs. search needs)
     (λ c κs. search needs)
     (λ c κs. search needs)
-    (λ c. simp (c .closed .ensures, c .before .one-more .ensures, c .before .before .heard .ensures)))
+    (λ c. simp (c .with-status .ensures, c .before .one-more .ensures, c .before .before .heard .ensures)))

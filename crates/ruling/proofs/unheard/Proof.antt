@@ -1,4 +1,4 @@
--- `unheard`: the mode and the code.
+-- `unheard`: the mode and the event.
 -- Assumes nothing.
 use borrow.Author.Needs.{needs}
 use Rattle.rules.specs.Rules.{unheard}
@@ -12,4 +12,4 @@ unheard-spec =
     (tie.spec
     (λ c κs. search needs)
     (λ c κs. search needs)
-    (λ c. simp (← c .before .in-mode .ensures, ← c .before .before .taken-apart .ensures)))
+    (λ c. simp (← c .before .in-mode .ensures, ← c .is-started .ensures)))
