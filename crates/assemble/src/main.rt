@@ -5,7 +5,7 @@ mod names;
 use libc::STDOUT_FILENO;
 use line::Expected;
 use line::Kind;
-use words::ROOM;
+use terminal::BUFFER;
 
 const PIECE: usize = 65536;
 
@@ -21,25 +21,25 @@ struct Text {
 }
 
 fn main() {
-    if words::none_given() {
+    if terminal::none_given() {
         assemble_all();
     } else {
-        words::tell_use(
+        terminal::tell_use(
             b"assemble: use: assemble, a text of events on standard input; it takes no words\n",
         );
     }
 }
 
 fn assemble_all() {
-    let mut out = [0u8; ROOM];
+    let mut out = [0u8; BUFFER];
     let mut space = [0u8; 256];
     let text = all(&mut space, &mut out);
     let text = finish(text, &mut space, &mut out);
-    words::flush(STDOUT_FILENO, &out, text.at);
+    terminal::flush(STDOUT_FILENO, &out, text.at);
 }
 
 // A proved loop has to end, and nothing says that the input does: the turns are counted down from a number that no run uses up.
-fn all(space: &mut [u8; 256], out: &mut [u8; ROOM]) -> Text {
+fn all(space: &mut [u8; 256], out: &mut [u8; BUFFER]) -> Text {
     let mut text = Text {
         length: 0,
         long: false,
@@ -60,16 +60,16 @@ fn all(space: &mut [u8; 256], out: &mut [u8; ROOM]) -> Text {
 }
 
 // Reads a piece, takes its bytes and writes the events out, since who reads a live feed waits for them.
-fn turn(text: Text, space: &mut [u8; 256], out: &mut [u8; ROOM]) -> Text {
+fn turn(text: Text, space: &mut [u8; 256], out: &mut [u8; BUFFER]) -> Text {
     let mut piece = [0u8; PIECE];
-    let n = words::fill(&mut piece, 1);
+    let n = terminal::fill(&mut piece, 1);
     let mut after = take_all(text, &piece[..n], space, out);
-    after.at = words::flush(STDOUT_FILENO, out, after.at);
-    after.more = words::reads_on(n, 1, after.at);
+    after.at = terminal::flush(STDOUT_FILENO, out, after.at);
+    after.more = terminal::reads_on(n, 1, after.at);
     after
 }
 
-fn take_all(first: Text, piece: &[u8], space: &mut [u8; 256], out: &mut [u8; ROOM]) -> Text {
+fn take_all(first: Text, piece: &[u8], space: &mut [u8; 256], out: &mut [u8; BUFFER]) -> Text {
     let mut text = first;
     let mut i: usize = 0;
     while i < piece.len() {
@@ -79,7 +79,7 @@ fn take_all(first: Text, piece: &[u8], space: &mut [u8; 256], out: &mut [u8; ROO
     text
 }
 
-fn take(text: Text, b: u8, space: &mut [u8; 256], out: &mut [u8; ROOM]) -> Text {
+fn take(text: Text, b: u8, space: &mut [u8; 256], out: &mut [u8; BUFFER]) -> Text {
     if b == b'\n' {
         return finish(text, space, out);
     }
@@ -102,7 +102,7 @@ fn take(text: Text, b: u8, space: &mut [u8; 256], out: &mut [u8; ROOM]) -> Text 
 }
 
 // The end of a line: its event is written, or what is wrong is told.
-fn finish(text: Text, space: &mut [u8; 256], out: &mut [u8; ROOM]) -> Text {
+fn finish(text: Text, space: &mut [u8; 256], out: &mut [u8; BUFFER]) -> Text {
     let mut after = text;
     if text.long {
         tell(text.number, Expected::Short);
@@ -116,13 +116,13 @@ fn finish(text: Text, space: &mut [u8; 256], out: &mut [u8; ROOM]) -> Text {
     after
 }
 
-fn write(space: &[u8], length: usize, number: u64, out: &mut [u8; ROOM], at: usize) -> usize {
+fn write(space: &[u8], length: usize, number: u64, out: &mut [u8; BUFFER], at: usize) -> usize {
     let read = line::read(space, length);
     let kind = read.kind;
     let bytes = read.bytes;
     match kind {
         Kind::Nothing => at,
-        Kind::Event => words::text(STDOUT_FILENO, out, at, &bytes),
+        Kind::Event => terminal::text(STDOUT_FILENO, out, at, &bytes),
         Kind::Wrong(expected) => {
             tell(number, expected);
             at
@@ -155,5 +155,5 @@ fn tell(number: u64, expected: Expected) {
 }
 
 fn wrong(number: u64, expected: &[u8]) {
-    words::tell(b"assemble: line ", number, expected);
+    terminal::tell(b"assemble: line ", number, expected);
 }

@@ -6,7 +6,7 @@ use layout::EVENT;
 use libc::STDOUT_FILENO;
 use manager::Manager;
 use state::State;
-use words::ROOM;
+use terminal::BUFFER;
 
 // Many events at a time.
 const PIECE: usize = 4096 * EVENT;
@@ -19,27 +19,27 @@ struct Listed {
 }
 
 fn main() {
-    if words::none_given() {
+    if terminal::none_given() {
         list_all();
     } else {
-        words::tell_use(b"listing: use: listing, events on standard input; it takes no words\n");
+        terminal::tell_use(b"listing: use: listing, events on standard input; it takes no words\n");
     }
 }
 
 fn list_all() {
-    let mut out = [0u8; ROOM];
-    let at = words::text(
+    let mut out = [0u8; BUFFER];
+    let at = terminal::text(
         STDOUT_FILENO,
         &mut out,
         0,
         b"ev st mode lci lpa saa too arm rec\n",
     );
     let at = all(&mut out, at);
-    words::flush(STDOUT_FILENO, &out, at);
+    terminal::flush(STDOUT_FILENO, &out, at);
 }
 
 // A proved loop has to end, and nothing says that the input does: the turns are counted down from a number that no run uses up.
-fn all(out: &mut [u8; ROOM], from: usize) -> usize {
+fn all(out: &mut [u8; BUFFER], from: usize) -> usize {
     let mut manager = manager::fresh(0);
     let mut at = from;
     let mut turns = u64::MAX;
@@ -56,26 +56,26 @@ fn all(out: &mut [u8; ROOM], from: usize) -> usize {
 }
 
 // Reads a piece, lists its events and writes the lines out, since who reads a live feed waits for them.
-fn turn(manager: Manager, out: &mut [u8; ROOM], at: usize) -> Listed {
+fn turn(manager: Manager, out: &mut [u8; BUFFER], at: usize) -> Listed {
     let mut piece = [0u8; PIECE];
-    let n = words::fill(&mut piece, EVENT);
+    let n = terminal::fill(&mut piece, EVENT);
     let listed = list(manager, &piece[..n], out, at);
     let manager = listed.manager;
-    let at = words::flush(STDOUT_FILENO, out, listed.at);
+    let at = terminal::flush(STDOUT_FILENO, out, listed.at);
     Listed {
         manager,
         at,
-        more: words::reads_on(n, EVENT, at),
+        more: terminal::reads_on(n, EVENT, at),
     }
 }
 
 // The events of a piece; what is left at its end is shorter than an event.
-fn list(first: Manager, piece: &[u8], out: &mut [u8; ROOM], from: usize) -> Listed {
+fn list(first: Manager, piece: &[u8], out: &mut [u8; BUFFER], from: usize) -> Listed {
     let mut manager = first;
     let mut at = from;
     let mut i: usize = 0;
     while i < piece.len() {
-        let end = words::group_end(piece.len(), i, EVENT);
+        let end = terminal::group_end(piece.len(), i, EVENT);
         let listed = one(manager, &piece[i..end], out, at);
         manager = listed.manager;
         at = listed.at;
@@ -88,7 +88,7 @@ fn list(first: Manager, piece: &[u8], out: &mut [u8; ROOM], from: usize) -> List
     }
 }
 
-fn one(manager: Manager, event: &[u8], out: &mut [u8; ROOM], at: usize) -> Listed {
+fn one(manager: Manager, event: &[u8], out: &mut [u8; BUFFER], at: usize) -> Listed {
     let mut lent = [0u8; BLOCK];
     let before = manager.head;
     let stepped = manager::step(manager, event, &mut lent);
@@ -101,7 +101,7 @@ fn one(manager: Manager, event: &[u8], out: &mut [u8; ROOM], at: usize) -> Liste
     let at = column(out, at, answer.number() as u64);
     let at = columns(out, at, state);
     let at = column(out, at, records);
-    let at = words::byte(STDOUT_FILENO, out, at, b'\n');
+    let at = terminal::byte(STDOUT_FILENO, out, at, b'\n');
     Listed {
         manager: after,
         at,
@@ -121,14 +121,14 @@ fn added(before: Head, after: Head, written: bool) -> u64 {
 }
 
 // The number of an event that is in the log.
-fn event_number(out: &mut [u8; ROOM], at: usize, answer: Answer, count: u32) -> usize {
+fn event_number(out: &mut [u8; BUFFER], at: usize, answer: Answer, count: u32) -> usize {
     match answer {
-        Answer::Taken(_) => words::number(STDOUT_FILENO, out, at, count as u64),
-        _ => words::byte(STDOUT_FILENO, out, at, b'-'),
+        Answer::Taken(_) => terminal::number(STDOUT_FILENO, out, at, count as u64),
+        _ => terminal::byte(STDOUT_FILENO, out, at, b'-'),
     }
 }
 
-fn columns(out: &mut [u8; ROOM], at: usize, state: State) -> usize {
+fn columns(out: &mut [u8; BUFFER], at: usize, state: State) -> usize {
     let mode = state.mode;
     let lci = state.lci;
     let lpa = state.lpa;
@@ -141,7 +141,7 @@ fn columns(out: &mut [u8; ROOM], at: usize, state: State) -> usize {
     column(out, at, state.armed as u64)
 }
 
-fn column(out: &mut [u8; ROOM], at: usize, n: u64) -> usize {
-    let at = words::byte(STDOUT_FILENO, out, at, b' ');
-    words::number(STDOUT_FILENO, out, at, n)
+fn column(out: &mut [u8; BUFFER], at: usize, n: u64) -> usize {
+    let at = terminal::byte(STDOUT_FILENO, out, at, b' ');
+    terminal::number(STDOUT_FILENO, out, at, n)
 }
