@@ -5,6 +5,7 @@ ghost use lib.ListN.{length};
 use libc::STDERR_FILENO;
 use libc::STDOUT_FILENO;
 use terminal::BUFFER;
+use terminal::TURNS;
 
 // The length of the longest string.
 const LONGEST: usize = 65535;
@@ -25,16 +26,12 @@ fn check_all() {
     all(&mut string, &mut out);
 }
 
-// A proved loop has to end, and nothing says that the input does: the turns are counted down from a number that no run uses up.
 fn all(string: &mut [u8; LONGEST], out: &mut [u8; BUFFER]) {
     let mut number: u64 = 1;
-    let mut turns = u64::MAX;
+    let mut turns = TURNS;
     while turns > 0 {
-        if !one(number, string, out) {
-            return;
-        }
+        turns = terminal::turns_left(turns, one(number, string, out));
         number = std::num::wrapping_add_u64(number, 1);
-        turns -= 1;
     }
 }
 

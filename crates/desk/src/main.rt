@@ -8,6 +8,7 @@ use state::State;
 use terminal::BROKEN;
 use terminal::BUFFER;
 use terminal::Parsed;
+use terminal::TURNS;
 
 // Many strings at a time.
 const PIECE: usize = 128 * BLOCK;
@@ -16,7 +17,6 @@ const PIECE: usize = 128 * BLOCK;
 struct Heard {
     reader: Reader,
     at: usize,
-    more: bool,
 }
 
 fn main() {
@@ -43,36 +43,21 @@ fn hear(log: u32) {
     }
 }
 
-// A proved loop has to end, and nothing says that the input does: the turns are counted down from a number that no run uses up.
+// Reads a piece, delivers its strings and writes the lines out, since who reads a live feed waits for them; and so on.
 fn all(log: u32, out: &mut [u8; BUFFER], from: usize) -> Heard {
     let mut heard = Heard {
         reader: reader::fresh(log),
         at: from,
-        more: true,
     };
-    let mut turns = u64::MAX;
+    let mut piece = [0u8; PIECE];
+    let mut turns = TURNS;
     while turns > 0 {
-        heard = turn(heard, out);
-        if !heard.more {
-            return heard;
-        }
-        turns -= 1;
+        let n = terminal::fill(&mut piece, BLOCK);
+        heard = deliver(heard, &piece[..n], out);
+        heard.at = terminal::flush(STDOUT_FILENO, out, heard.at);
+        turns = terminal::turns_left(turns, terminal::reads_on(n, BLOCK, heard.at));
     }
     heard
-}
-
-// Reads a piece, delivers its strings and writes the lines out, since who reads a live feed waits for them.
-fn turn(heard: Heard, out: &mut [u8; BUFFER]) -> Heard {
-    let mut piece = [0u8; PIECE];
-    let n = terminal::fill(&mut piece, BLOCK);
-    let after = deliver(heard, &piece[..n], out);
-    let reader = after.reader;
-    let at = terminal::flush(STDOUT_FILENO, out, after.at);
-    Heard {
-        reader,
-        at,
-        more: terminal::reads_on(n, BLOCK, at),
-    }
 }
 
 // The strings of a piece; what is left at its end is shorter than a block, and delivered as it is.
@@ -98,11 +83,7 @@ fn one(heard: Heard, string: &[u8], out: &mut [u8; BUFFER]) -> Heard {
     let at = column(out, at, kinds::flag::number(reader::behind(reader)) as u64);
     let at = columns(out, at, state);
     let at = terminal::byte(STDOUT_FILENO, out, at, b'\n');
-    Heard {
-        reader,
-        at,
-        more: true,
-    }
+    Heard { reader, at }
 }
 
 fn columns(out: &mut [u8; BUFFER], at: usize, state: State) -> usize {

@@ -1,3 +1,4 @@
 pub mod CopyLaws
 pub mod InputLaws
 pub mod NumeralLaws
+pub mod TurnsLaws
