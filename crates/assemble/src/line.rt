@@ -6,7 +6,7 @@ use events::Event;
 use events::EventParts;
 use events::FoundEvent;
 use layout::EVENT;
-use words::Parsed;
+use terminal::Parsed;
 
 // The hex digits of an event.
 const DIGITS: usize = 2 * EVENT;
@@ -108,7 +108,7 @@ fn value(word: &[u8]) -> Parsed {
     if word.len() == 0 {
         return Parsed::Number(0);
     }
-    words::parse(word)
+    terminal::parse(word)
 }
 
 fn made(code: u16, a: u32, b: u32) -> Line {
@@ -167,12 +167,12 @@ fn pairs(digits: &[u8]) -> Line {
     let mut bytes = [0u8; EVENT];
     let mut i: usize = 0;
     while i < EVENT {
-        let high = words::digit(digits[2 * i], true);
-        let low = words::digit(digits[2 * i + 1], true);
-        if high == words::NO_DIGIT {
+        let high = terminal::digit(digits[2 * i], true);
+        let low = terminal::digit(digits[2 * i + 1], true);
+        if high == terminal::NO_DIGIT {
             return wrong(Expected::Raw);
         }
-        if low == words::NO_DIGIT {
+        if low == terminal::NO_DIGIT {
             return wrong(Expected::Raw);
         }
         bytes[i] = (high % 16 * 16 + low % 16) as u8;

@@ -5,71 +5,74 @@ mod names;
 use libc::STDOUT_FILENO;
 use line::Expected;
 use line::Kind;
-use words::ROOM;
+use terminal::BUFFER;
+use terminal::Messages;
+use terminal::TURNS;
 
 const PIECE: usize = 65536;
 
-// How much of the line has come before its comment, whether that is too long, whether the comment has begun, the line's number, and how
-// much of the output buffer is taken.
+// A line before its comment.
+const LONGEST: usize = 256;
+
+// How much of the line has come before its comment, whether that is too long, whether the comment has begun, whether the text has begun
+// (a byte order mark is looked for no more), the line's number, how much of the output buffer is taken, and the lines that could not be read.
 struct Text {
     length: usize,
     long: bool,
     comment: bool,
+    begun: bool,
     number: u64,
     at: usize,
-    more: bool,
+    wrong: Messages,
 }
 
 fn main() {
-    if words::none_given() {
+    if terminal::none_given() {
         assemble_all();
     } else {
-        words::tell_use(
+        terminal::tell_use(
             b"assemble: use: assemble, a text of events on standard input; it takes no words\n",
         );
     }
 }
 
 fn assemble_all() {
-    let mut out = [0u8; ROOM];
-    let mut space = [0u8; 256];
+    let mut out = [0u8; BUFFER];
+    let mut space = [0u8; LONGEST];
     let text = all(&mut space, &mut out);
     let text = finish(text, &mut space, &mut out);
-    words::flush(STDOUT_FILENO, &out, text.at);
+    terminal::flush(STDOUT_FILENO, &out, text.at);
+    terminal::tell_rest(
+        text.wrong,
+        b"assemble: ",
+        b" more line could not be read\n",
+        b" more lines could not be read\n",
+    );
 }
 
-// A proved loop has to end, and nothing says that the input does: the turns are counted down from a number that no run uses up.
-fn all(space: &mut [u8; 256], out: &mut [u8; ROOM]) -> Text {
+// Reads a piece, takes its bytes and writes the events out, since who reads a live feed waits for them; and so on.
+fn all(space: &mut [u8; LONGEST], out: &mut [u8; BUFFER]) -> Text {
     let mut text = Text {
         length: 0,
         long: false,
         comment: false,
+        begun: false,
         number: 1,
         at: 0,
-        more: true,
+        wrong: Messages::none(),
     };
-    let mut turns = u64::MAX;
+    let mut piece = [0u8; PIECE];
+    let mut turns = TURNS;
     while turns > 0 {
-        text = turn(text, space, out);
-        if !text.more {
-            return text;
-        }
-        turns -= 1;
+        let n = terminal::fill(&mut piece, 1);
+        text = take_all(text, &piece[..n], space, out);
+        text.at = terminal::flush(STDOUT_FILENO, out, text.at);
+        turns = terminal::turns_left(turns, terminal::reads_on(n, 1, text.at));
     }
     text
 }
 
-// Reads a piece, takes its bytes and writes the events out, since who reads a live feed waits for them.
-fn turn(text: Text, space: &mut [u8; 256], out: &mut [u8; ROOM]) -> Text {
-    let mut piece = [0u8; PIECE];
-    let n = words::fill(&mut piece, 1);
-    let mut after = take_all(text, &piece[..n], space, out);
-    after.at = words::flush(STDOUT_FILENO, out, after.at);
-    after.more = words::reads_on(n, 1, after.at);
-    after
-}
-
-fn take_all(first: Text, piece: &[u8], space: &mut [u8; 256], out: &mut [u8; ROOM]) -> Text {
+fn take_all(first: Text, piece: &[u8], space: &mut [u8; LONGEST], out: &mut [u8; BUFFER]) -> Text {
     let mut text = first;
     let mut i: usize = 0;
     while i < piece.len() {
@@ -79,7 +82,7 @@ fn take_all(first: Text, piece: &[u8], space: &mut [u8; 256], out: &mut [u8; ROO
     text
 }
 
-fn take(text: Text, b: u8, space: &mut [u8; 256], out: &mut [u8; ROOM]) -> Text {
+fn take(text: Text, b: u8, space: &mut [u8; LONGEST], out: &mut [u8; BUFFER]) -> Text {
     if b == b'\n' {
         return finish(text, space, out);
     }
@@ -92,42 +95,73 @@ fn take(text: Text, b: u8, space: &mut [u8; 256], out: &mut [u8; ROOM]) -> Text 
         return after;
     }
     let length = text.length;
-    if length < 256 {
-        space[length] = b;
-        after.length = length + 1;
-    } else {
+    if length >= LONGEST {
         after.long = true;
+        return after;
+    }
+    space[length] = b;
+    after.length = length + 1;
+    if text.begun {
+        return after;
+    }
+    without_mark(after, space)
+}
+
+// The first three bytes of a text are left out where they are the mark that some editors put there.
+fn without_mark(text: Text, space: &[u8; LONGEST]) -> Text {
+    if text.length < 3 {
+        return text;
+    }
+    let mut after = text;
+    after.begun = true;
+    if is_mark(space[0], space[1], space[2]) {
+        after.length = 0;
     }
     after
 }
 
+fn is_mark(first: u8, second: u8, third: u8) -> bool {
+    (first == 0xEF) & (second == 0xBB) & (third == 0xBF)
+}
+
 // The end of a line: its event is written, or what is wrong is told.
-fn finish(text: Text, space: &mut [u8; 256], out: &mut [u8; ROOM]) -> Text {
-    let mut after = text;
-    if text.long {
-        tell(text.number, Expected::Short);
-    } else {
-        after.at = write(space, text.length, text.number, out, text.at);
-    }
+fn finish(text: Text, space: &mut [u8; LONGEST], out: &mut [u8; BUFFER]) -> Text {
+    let mut after = write(text, space, out);
     after.length = 0;
     after.long = false;
     after.comment = false;
+    after.begun = true;
     after.number = std::num::wrapping_add_u64(text.number, 1);
     after
 }
 
-fn write(space: &[u8], length: usize, number: u64, out: &mut [u8; ROOM], at: usize) -> usize {
-    let read = line::read(space, length);
+fn write(text: Text, space: &[u8], out: &mut [u8; BUFFER]) -> Text {
+    if text.long {
+        return with_wrong(text, Expected::Short);
+    }
+    let read = line::read(space, text.length);
     let kind = read.kind;
     let bytes = read.bytes;
     match kind {
-        Kind::Nothing => at,
-        Kind::Event => words::text(STDOUT_FILENO, out, at, &bytes),
-        Kind::Wrong(expected) => {
-            tell(number, expected);
-            at
+        Kind::Nothing => text,
+        Kind::Event => {
+            let mut after = text;
+            after.at = terminal::text(STDOUT_FILENO, out, text.at, &bytes);
+            after
         },
+        Kind::Wrong(expected) => with_wrong(text, expected),
     }
+}
+
+// A line that could not be read is told by its number, and after twenty only counted.
+fn with_wrong(text: Text, expected: Expected) -> Text {
+    let mut after = text;
+    let wrong = text.wrong;
+    if wrong.tells_next() {
+        tell(text.number, expected);
+    }
+    after.wrong = wrong.with_next();
+    after
 }
 
 fn tell(number: u64, expected: Expected) {
@@ -155,5 +189,5 @@ fn tell(number: u64, expected: Expected) {
 }
 
 fn wrong(number: u64, expected: &[u8]) {
-    words::tell(b"assemble: line ", number, expected);
+    terminal::tell(b"assemble: line ", number, expected);
 }

@@ -5,9 +5,10 @@ use libc::STDERR_FILENO;
 use libc::STDOUT_FILENO;
 use reader::Reader;
 use state::State;
-use words::BROKEN;
-use words::Parsed;
-use words::ROOM;
+use terminal::BROKEN;
+use terminal::BUFFER;
+use terminal::Parsed;
+use terminal::TURNS;
 
 // Many strings at a time.
 const PIECE: usize = 128 * BLOCK;
@@ -16,96 +17,76 @@ const PIECE: usize = 128 * BLOCK;
 struct Heard {
     reader: Reader,
     at: usize,
-    more: bool,
 }
 
 fn main() {
-    match words::only_number() {
+    match terminal::only_number() {
         Parsed::Number(log) => hear(log),
-        _ => words::tell_use(
+        _ => terminal::tell_use(
             b"desk: use: desk LOG, blocks on standard input; LOG is the log's number, 0 to 4294967295, decimal or 0x and hex\n",
         ),
     }
 }
 
 fn hear(log: u32) {
-    let mut out = [0u8; ROOM];
-    let at = words::text(
+    let mut out = [0u8; BUFFER];
+    let at = terminal::text(
         STDOUT_FILENO,
         &mut out,
         0,
         b"an next heard behind mode lci lpa lpm saa lciw lpaw too arm ev\n",
     );
     let heard = all(log, &mut out, at);
-    let at = words::flush(STDOUT_FILENO, &out, heard.at);
+    let at = terminal::flush(STDOUT_FILENO, &out, heard.at);
     if at != BROKEN {
         sum_up(heard.reader);
     }
 }
 
-// A proved loop has to end, and nothing says that the input does: the turns are counted down from a number that no run uses up.
-fn all(log: u32, out: &mut [u8; ROOM], from: usize) -> Heard {
+// Reads a piece, delivers its strings and writes the lines out, since who reads a live feed waits for them; and so on.
+fn all(log: u32, out: &mut [u8; BUFFER], from: usize) -> Heard {
     let mut heard = Heard {
         reader: reader::fresh(log),
         at: from,
-        more: true,
     };
-    let mut turns = u64::MAX;
+    let mut piece = [0u8; PIECE];
+    let mut turns = TURNS;
     while turns > 0 {
-        heard = turn(heard, out);
-        if !heard.more {
-            return heard;
-        }
-        turns -= 1;
+        let n = terminal::fill(&mut piece, BLOCK);
+        heard = deliver(heard, &piece[..n], out);
+        heard.at = terminal::flush(STDOUT_FILENO, out, heard.at);
+        turns = terminal::turns_left(turns, terminal::reads_on(n, BLOCK, heard.at));
     }
     heard
 }
 
-// Reads a piece, delivers its strings and writes the lines out, since who reads a live feed waits for them.
-fn turn(heard: Heard, out: &mut [u8; ROOM]) -> Heard {
-    let mut piece = [0u8; PIECE];
-    let n = words::fill(&mut piece, BLOCK);
-    let after = deliver(heard, &piece[..n], out);
-    let reader = after.reader;
-    let at = words::flush(STDOUT_FILENO, out, after.at);
-    Heard {
-        reader,
-        at,
-        more: words::reads_on(n, BLOCK, at),
-    }
-}
-
 // The strings of a piece; what is left at its end is shorter than a block, and delivered as it is.
-fn deliver(first: Heard, piece: &[u8], out: &mut [u8; ROOM]) -> Heard {
+fn deliver(first: Heard, piece: &[u8], out: &mut [u8; BUFFER]) -> Heard {
     let mut heard = first;
     let mut i: usize = 0;
     while i < piece.len() {
-        let end = words::group_end(piece.len(), i, BLOCK);
+        let end = terminal::group_end(piece.len(), i, BLOCK);
         heard = one(heard, &piece[i..end], out);
         i = end;
     }
     heard
 }
 
-fn one(heard: Heard, string: &[u8], out: &mut [u8; ROOM]) -> Heard {
+fn one(heard: Heard, string: &[u8], out: &mut [u8; BUFFER]) -> Heard {
     let read = reader::read(heard.reader, string);
     let answer = read.answer;
     let reader = read.reader;
     let state = reader.state;
-    let at = words::number(STDOUT_FILENO, out, heard.at, answer.number() as u64);
+    let at = terminal::number(STDOUT_FILENO, out, heard.at, answer.number() as u64);
     let at = column(out, at, reader.next as u64);
     let at = column(out, at, reader.heard as u64);
     let at = column(out, at, kinds::flag::number(reader::behind(reader)) as u64);
     let at = columns(out, at, state);
-    let at = words::byte(STDOUT_FILENO, out, at, b'\n');
-    Heard {
-        reader,
-        at,
-        more: true,
-    }
+    let at = terminal::byte(STDOUT_FILENO, out, at, b'\n');
+    Heard { reader, at }
 }
 
-fn columns(out: &mut [u8; ROOM], at: usize, state: State) -> usize {
+fn columns(out: &mut [u8; BUFFER], at: usize, state: State) -> usize {
     let mode = state.mode;
     let lci = state.lci;
     let lpa = state.lpa;
@@ -123,28 +104,28 @@ fn columns(out: &mut [u8; ROOM], at: usize, state: State) -> usize {
     column(out, at, state.count as u64)
 }
 
-fn column(out: &mut [u8; ROOM], at: usize, n: u64) -> usize {
-    let at = words::byte(STDOUT_FILENO, out, at, b' ');
-    words::number(STDOUT_FILENO, out, at, n)
+fn column(out: &mut [u8; BUFFER], at: usize, n: u64) -> usize {
+    let at = terminal::byte(STDOUT_FILENO, out, at, b' ');
+    terminal::number(STDOUT_FILENO, out, at, n)
 }
 
 // The sentence at the end, for people.
 fn sum_up(reader: Reader) {
-    let mut line = [0u8; ROOM];
+    let mut line = [0u8; BUFFER];
     let state = reader.state;
     let at = say(&mut line, 0, b"desk: the instrument is in mode ");
     let mode = state.mode;
     let at = say_mode(&mut line, at, mode);
     let at = say_event(&mut line, at, state.count);
     let at = say_behind(&mut line, at, reader);
-    words::flush(STDERR_FILENO, &line, at);
+    terminal::flush(STDERR_FILENO, &line, at);
 }
 
-fn say(line: &mut [u8; ROOM], at: usize, s: &[u8]) -> usize {
-    words::text(STDERR_FILENO, line, at, s)
+fn say(line: &mut [u8; BUFFER], at: usize, s: &[u8]) -> usize {
+    terminal::text(STDERR_FILENO, line, at, s)
 }
 
-fn say_mode(line: &mut [u8; ROOM], at: usize, mode: Mode) -> usize {
+fn say_mode(line: &mut [u8; BUFFER], at: usize, mode: Mode) -> usize {
     match mode {
         Mode::Boot => say(line, at, b"BOOT"),
         Mode::Terminal => say(line, at, b"TERMINAL"),
@@ -156,21 +137,21 @@ fn say_mode(line: &mut [u8; ROOM], at: usize, mode: Mode) -> usize {
     }
 }
 
-fn say_event(line: &mut [u8; ROOM], at: usize, count: u32) -> usize {
+fn say_event(line: &mut [u8; BUFFER], at: usize, count: u32) -> usize {
     if count == 0 {
         return say(line, at, b" before any event");
     }
     let at = say(line, at, b" after event ");
-    words::number(STDERR_FILENO, line, at, count as u64)
+    terminal::number(STDERR_FILENO, line, at, count as u64)
 }
 
-fn say_behind(line: &mut [u8; ROOM], at: usize, reader: Reader) -> usize {
+fn say_behind(line: &mut [u8; BUFFER], at: usize, reader: Reader) -> usize {
     if reader.heard <= reader.next {
         return say(line, at, b", and the desk is not behind.\n");
     }
     let blocks = reader.heard - reader.next;
     let at = say(line, at, b", and the desk is behind by ");
-    let at = words::number(STDERR_FILENO, line, at, blocks as u64);
+    let at = terminal::number(STDERR_FILENO, line, at, blocks as u64);
     if blocks == 1 {
         return say(line, at, b" block.\n");
     }

@@ -6,7 +6,8 @@ use layout::EVENT;
 use libc::STDOUT_FILENO;
 use manager::Manager;
 use state::State;
-use words::ROOM;
+use terminal::BUFFER;
+use terminal::TURNS;
 
 // Many events at a time.
 const PIECE: usize = 4096 * EVENT;
@@ -15,81 +16,60 @@ const PIECE: usize = 4096 * EVENT;
 struct Listed {
     manager: Manager,
     at: usize,
-    more: bool,
 }
 
 fn main() {
-    if words::none_given() {
+    if terminal::none_given() {
         list_all();
     } else {
-        words::tell_use(b"listing: use: listing, events on standard input; it takes no words\n");
+        terminal::tell_use(b"listing: use: listing, events on standard input; it takes no words\n");
     }
 }
 
 fn list_all() {
-    let mut out = [0u8; ROOM];
-    let at = words::text(
+    let mut out = [0u8; BUFFER];
+    let at = terminal::text(
         STDOUT_FILENO,
         &mut out,
         0,
         b"ev st mode lci lpa saa too arm rec\n",
     );
-    let at = all(&mut out, at);
-    words::flush(STDOUT_FILENO, &out, at);
+    let listed = all(&mut out, at);
+    terminal::flush(STDOUT_FILENO, &out, listed.at);
 }
 
-// A proved loop has to end, and nothing says that the input does: the turns are counted down from a number that no run uses up.
-fn all(out: &mut [u8; ROOM], from: usize) -> usize {
-    let mut manager = manager::fresh(0);
-    let mut at = from;
-    let mut turns = u64::MAX;
-    while turns > 0 {
-        let listed = turn(manager, out, at);
-        manager = listed.manager;
-        at = listed.at;
-        if !listed.more {
-            return at;
-        }
-        turns -= 1;
-    }
-    at
-}
-
-// Reads a piece, lists its events and writes the lines out, since who reads a live feed waits for them.
-fn turn(manager: Manager, out: &mut [u8; ROOM], at: usize) -> Listed {
+// Reads a piece, lists its events and writes the lines out, since who reads a live feed waits for them; and so on.
+fn all(out: &mut [u8; BUFFER], from: usize) -> Listed {
+    let mut listed = Listed {
+        manager: manager::fresh(0),
+        at: from,
+    };
     let mut piece = [0u8; PIECE];
-    let n = words::fill(&mut piece, EVENT);
-    let listed = list(manager, &piece[..n], out, at);
-    let manager = listed.manager;
-    let at = words::flush(STDOUT_FILENO, out, listed.at);
-    Listed {
-        manager,
-        at,
-        more: words::reads_on(n, EVENT, at),
+    let mut turns = TURNS;
+    while turns > 0 {
+        let n = terminal::fill(&mut piece, EVENT);
+        listed = list(listed, &piece[..n], out);
+        listed.at = terminal::flush(STDOUT_FILENO, out, listed.at);
+        turns = terminal::turns_left(turns, terminal::reads_on(n, EVENT, listed.at));
     }
+    listed
 }
 
 // The events of a piece; what is left at its end is shorter than an event.
-fn list(first: Manager, piece: &[u8], out: &mut [u8; ROOM], from: usize) -> Listed {
-    let mut manager = first;
-    let mut at = from;
+fn list(first: Listed, piece: &[u8], out: &mut [u8; BUFFER]) -> Listed {
+    let mut listed = first;
     let mut i: usize = 0;
     while i < piece.len() {
-        let end = words::group_end(piece.len(), i, EVENT);
-        let listed = one(manager, &piece[i..end], out, at);
-        manager = listed.manager;
-        at = listed.at;
+        let end = terminal::group_end(piece.len(), i, EVENT);
+        listed = one(listed, &piece[i..end], out);
         i = end;
     }
-    Listed {
-        manager,
-        at,
-        more: true,
-    }
+    listed
 }
 
-fn one(manager: Manager, event: &[u8], out: &mut [u8; ROOM], at: usize) -> Listed {
+fn one(listed: Listed, event: &[u8], out: &mut [u8; BUFFER]) -> Listed {
     let mut lent = [0u8; BLOCK];
+    let manager = listed.manager;
     let before = manager.head;
     let stepped = manager::step(manager, event, &mut lent);
     let after = stepped.manager;
@@ -97,16 +77,12 @@ fn one(manager: Manager, event: &[u8], out: &mut [u8; ROOM], at: usize) -> Liste
     let head = after.head;
     let records = added(before, head, stepped.written);
     let answer = stepped.answer;
-    let at = event_number(out, at, answer, state.count);
+    let at = event_number(out, listed.at, answer, state.count);
     let at = column(out, at, answer.number() as u64);
     let at = columns(out, at, state);
     let at = column(out, at, records);
-    let at = words::byte(STDOUT_FILENO, out, at, b'\n');
-    Listed {
-        manager: after,
-        at,
-        more: true,
-    }
+    let at = terminal::byte(STDOUT_FILENO, out, at, b'\n');
+    Listed { manager: after, at }
 }
 
 // The records that an event put into the log: all of the open block's where the event began it.
@@ -121,14 +97,14 @@ fn added(before: Head, after: Head, written: bool) -> u64 {
 }
 
 // The number of an event that is in the log.
-fn event_number(out: &mut [u8; ROOM], at: usize, answer: Answer, count: u32) -> usize {
+fn event_number(out: &mut [u8; BUFFER], at: usize, answer: Answer, count: u32) -> usize {
     match answer {
-        Answer::Taken(_) => words::number(STDOUT_FILENO, out, at, count as u64),
-        _ => words::byte(STDOUT_FILENO, out, at, b'-'),
+        Answer::Taken(_) => terminal::number(STDOUT_FILENO, out, at, count as u64),
+        _ => terminal::byte(STDOUT_FILENO, out, at, b'-'),
     }
 }
 
-fn columns(out: &mut [u8; ROOM], at: usize, state: State) -> usize {
+fn columns(out: &mut [u8; BUFFER], at: usize, state: State) -> usize {
     let mode = state.mode;
     let lci = state.lci;
     let lpa = state.lpa;
@@ -141,7 +117,7 @@ fn columns(out: &mut [u8; ROOM], at: usize, state: State) -> usize {
     column(out, at, state.armed as u64)
 }
 
-fn column(out: &mut [u8; ROOM], at: usize, n: u64) -> usize {
-    let at = words::byte(STDOUT_FILENO, out, at, b' ');
-    words::number(STDOUT_FILENO, out, at, n)
+fn column(out: &mut [u8; BUFFER], at: usize, n: u64) -> usize {
+    let at = terminal::byte(STDOUT_FILENO, out, at, b' ');
+    terminal::number(STDOUT_FILENO, out, at, n)
 }

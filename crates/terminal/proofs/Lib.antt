@@ -1,0 +1,4 @@
+pub mod CopyLaws
+pub mod InputLaws
+pub mod NumeralLaws
+pub mod TurnsLaws

@@ -1,0 +1,4 @@
+pub mod Input
+pub mod Numeral
+pub mod Put
+pub mod Turns

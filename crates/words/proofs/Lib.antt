@@ -1,3 +1,0 @@
-pub mod CopyLaws
-pub mod InputLaws
-pub mod NumeralLaws

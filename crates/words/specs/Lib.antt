@@ -1,3 +1,0 @@
-pub mod Input
-pub mod Numeral
-pub mod Put
