@@ -20,7 +20,7 @@ uint16_t check_halves(const uint8_t *p, size_t n);
 // Eight bytes a step, eight tables of 256 entries.
 uint16_t check_slicing_8(const uint8_t *p, size_t n);
 
-// One bit a step, by the definition: what the others are held to.
+// One bit a step, by the definition: what the others are compared with.
 uint16_t check_bits(const uint8_t *p, size_t n);
 
 void make_check_tables(void);

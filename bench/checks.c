@@ -49,7 +49,7 @@ static void agree(void)
     }
 }
 
-// Each string hangs on the check of the one before it, so that no call can be left out or begun early.
+// Each string depends on the check of the one before it, so that no call can be left out or begun early.
 static uint16_t calls(check_fn *check, uint8_t *s, long n)
 {
     uint16_t r = 0;

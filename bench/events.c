@@ -2,7 +2,8 @@
 // that knows the state, by the rules in C, so that most commands come where they are taken and all modes are gone through often.
 #include "rules.h"
 
-enum { PIECE = 8192, SLOTS = 32, RARE = 1000 };
+// A code from NO_EVENT on is none, and stays none when events are added.
+enum { PIECE = 8192, SLOTS = 32, RARE = 1000, NO_EVENT = 0x4000 };
 
 // What comes in a mode, each as often as it stands here.
 static const uint8_t usual[][SLOTS] = {
@@ -73,7 +74,7 @@ static void fill(uint8_t *e, const struct state *s, unsigned code, uint64_t r)
 static void spoil(uint8_t *e, uint64_t r)
 {
     switch (r % 3) {
-    case 0: store16(e, (uint16_t)(EVENTS_END + r % 1000)); break;
+    case 0: store16(e, (uint16_t)(NO_EVENT + r % 1000)); break;
     case 1: e[2 + (r >> 8) % 2] = 1 + (uint8_t)(r >> 16) % 255; break;
     default: store16(e, E_NOOP); store32(e + 8, (uint32_t)(r >> 32) | 1); break;
     }

@@ -3,6 +3,7 @@
 ghost use Prim.Native.Nat.{_≤_};
 ghost use lib.ListN.{length};
 use libc::STDOUT_FILENO;
+use trial_blocks::bit_by_bit;
 
 fn main() {
     published(b"123456789", b"123456789", 0x29B1);
@@ -56,28 +57,6 @@ fn compare(name: &[u8], expected: u16, found: u16) {
         io::print_hex(STDOUT_FILENO, expected as u64, 4);
         io::write_all(STDOUT_FILENO, b"\n");
     }
-}
-
-// The check as the standard draws it.
-fn bit_by_bit(s: &[u8]) -> u16 {
-    let mut register: u16 = 0xFFFF;
-    for i in 0..s.len() {
-        register = byte_fed(register, s[i]);
-    }
-    register
-}
-
-// Eight bits, the highest first: what leaves the register comes back at x^12, x^5 and 1.
-fn byte_fed(register: u16, byte: u8) -> u16 {
-    let mut fed = register ^ ((byte as u16) << 8);
-    for _ in 0..8u32 {
-        fed = if fed >> 15 == 1 {
-            (fed << 1) ^ 0x1021
-        } else {
-            fed << 1
-        };
-    }
-    fed
 }
 
 // 510 bytes with no pattern that a shift would meet again.

@@ -25,8 +25,13 @@ fn main() {
 
 // Blocks ---------------------------------------------------------------------------------------------------------------------
 
-// Log 0x01020304, block 5, two records, 7 events before: TOOTIMER 1, 86400 and STATUS 1, 8. The check is worked out bit by bit.
-fn by_hand(used: u8) -> [u8; 512] {
+// Log 0x01020304, block 5, 7 events before, and the records TOOTIMER 1, 86400 and STATUS 1, 8. They are two, whatever `used` says.
+//
+// The check is not worked out here: its bytes are Python's. This writes those for 2 used, which is the 0002 of the head:
+//     import binascii
+//     head, records = "01020304 00000005 0002 00000007", "0007000100015180 001d000100000008"
+//     print("%04x" % binascii.crc_hqx(bytes.fromhex(head + records) + bytes(480), 0xFFFF))
+fn by_hand(used: u8, check: [u8; 2]) -> [u8; 512] {
     let mut block = [0u8; 512];
     block[0] = 0x01;
     block[1] = 0x02;
@@ -43,10 +48,13 @@ fn by_hand(used: u8) -> [u8; 512] {
     block[23] = 0x1D;
     block[25] = 0x01;
     block[29] = 0x08;
-    let check = frame_check::check(&block[..510]);
-    block[510] = (check / 256) as u8;
-    block[511] = (check % 256) as u8;
+    block[510] = check[0];
+    block[511] = check[1];
     block
+}
+
+fn two_used() -> [u8; 512] {
+    by_hand(2, [0x12, 0x66])
 }
 
 fn head() -> Head {
@@ -59,37 +67,37 @@ fn head() -> Head {
 }
 
 // The two records, as `layout` writes them, and zeros.
-fn area() -> [u8; 496] {
+fn records_by_hand() -> [u8; 496] {
     let timer = layout::record_bytes(Record::TooTimerStart { dwell: 86400 });
     let status = layout::record_bytes(Record::Status {
         status: Status::PktSent,
         event: 8,
     });
-    let mut area = [0u8; 496];
-    area[0] = timer[0];
-    area[1] = timer[1];
-    area[2] = timer[2];
-    area[3] = timer[3];
-    area[4] = timer[4];
-    area[5] = timer[5];
-    area[6] = timer[6];
-    area[7] = timer[7];
-    area[8] = status[0];
-    area[9] = status[1];
-    area[10] = status[2];
-    area[11] = status[3];
-    area[12] = status[4];
-    area[13] = status[5];
-    area[14] = status[6];
-    area[15] = status[7];
-    area
+    let mut records = [0u8; 496];
+    records[0] = timer[0];
+    records[1] = timer[1];
+    records[2] = timer[2];
+    records[3] = timer[3];
+    records[4] = timer[4];
+    records[5] = timer[5];
+    records[6] = timer[6];
+    records[7] = timer[7];
+    records[8] = status[0];
+    records[9] = status[1];
+    records[10] = status[2];
+    records[11] = status[3];
+    records[12] = status[4];
+    records[13] = status[5];
+    records[14] = status[6];
+    records[15] = status[7];
+    records
 }
 
 fn writing() {
-    let expected = by_hand(2);
-    let area = area();
+    let expected = two_used();
+    let records = records_by_hand();
     let mut lent = [0xAAu8; 512];
-    let answer = blocks::write_block(head(), &area, &mut lent);
+    let answer = blocks::write_block(head(), &records, &mut lent);
     yes_or_no(b"512 bytes lent, written", true, answer);
     yes_or_no(
         b"the block, as by hand",
@@ -98,30 +106,30 @@ fn writing() {
     );
     let mut short = [0xAAu8; 511];
     let untouched = [0xAAu8; 511];
-    let refused = blocks::write_block(head(), &area, &mut short);
+    let refused = blocks::write_block(head(), &records, &mut short);
     yes_or_no(b"511 bytes lent, written", false, refused);
     yes_or_no(
         b"511 bytes lent, as before",
         true,
         check::same(&short, &untouched),
     );
+    byte(b"check, high byte", 0x12, lent[510]);
+    byte(b"check, low byte", 0x66, lent[511]);
 }
 
 // A block is read as intact, with its records' length, or not.
 fn reading() {
-    let block = by_hand(2);
-    number(b"check, high byte", 0x12, block[510] as u64);
-    number(b"check, low byte", 0x66, block[511] as u64);
+    let block = two_used();
     read(b"used 2", &block, true, 16);
     read_cut(&block);
-    let mut flipped = by_hand(2);
+    let mut flipped = two_used();
     flipped[300] = 0x10;
     read(b"a bit flipped", &flipped, false, 0);
-    let none = by_hand(0);
+    let none = by_hand(0, [0x4B, 0x15]);
     read(b"used 0", &none, true, 0);
-    let all = by_hand(62);
+    let all = by_hand(62, [0xF9, 0x22]);
     read(b"used 62", &all, true, 496);
-    let more = by_hand(63);
+    let more = by_hand(63, [0x5D, 0x8B]);
     read(b"used 63", &more, true, 0);
 }
 
@@ -145,7 +153,7 @@ fn read_cut(block: &[u8])
 
 // The head of a block, and of a string that is too short for one.
 fn heads() {
-    let block = by_hand(2);
+    let block = two_used();
     let whole = blocks::read_head(&block);
     number(b"log number", 16909060, whole.number as u64);
     number(b"block number", 5, whole.block as u64);
@@ -321,6 +329,10 @@ fn number(name: &[u8], expected: u64, found: u64) {
         io::print_decimal(STDOUT_FILENO, expected);
         io::write_all(STDOUT_FILENO, b"\n");
     }
+}
+
+fn byte(name: &[u8], expected: u8, found: u8) {
+    number(name, expected as u64, found as u64);
 }
 
 fn yes_or_no(name: &[u8], expected: bool, found: bool) {

@@ -3,11 +3,17 @@
 // for each block that was written, held to one that is put together by hand with its check worked out bit by bit.
 use blocks::Head;
 use events::Event;
+use kinds::LpaMode;
 use kinds::Mode;
+use kinds::Task;
+use kinds::TooState;
 use libc::STDOUT_FILENO;
 use manager::Answered;
 use manager::Manager;
 use state::State;
+use trial_blocks::head;
+use trial_blocks::put;
+use trial_blocks::sealed;
 
 fn main() {
     filling();
@@ -21,40 +27,6 @@ fn main() {
 }
 
 // Blocks by hand -------------------------------------------------------------------------------------------------------------
-
-// The head of a block of log 7, and no records yet.
-fn head(number: u8, used: u8, before: u8) -> [u8; 512] {
-    let mut block = [0u8; 512];
-    block[3] = 7;
-    block[7] = number;
-    block[9] = used;
-    block[13] = before;
-    block
-}
-
-// A block with a record at a position.
-fn put(block: [u8; 512], at: usize, bytes: [u8; 8]) -> [u8; 512] {
-    let mut put = block;
-    if at < 62 {
-        put[14 + 8 * at] = bytes[0];
-        put[15 + 8 * at] = bytes[1];
-        put[16 + 8 * at] = bytes[2];
-        put[17 + 8 * at] = bytes[3];
-        put[18 + 8 * at] = bytes[4];
-        put[19 + 8 * at] = bytes[5];
-        put[20 + 8 * at] = bytes[6];
-        put[21 + 8 * at] = bytes[7];
-    }
-    put
-}
-
-fn sealed(block: [u8; 512]) -> [u8; 512] {
-    let mut whole = block;
-    let check = bit_by_bit(&whole);
-    whole[510] = (check / 256) as u8;
-    whole[511] = (check % 256) as u8;
-    whole
-}
 
 // OPMODE 1 and STATUS 0, 1.
 fn started(used: u8) -> [u8; 512] {
@@ -163,12 +135,12 @@ fn made(state: State, block: u32, used: u16, before: u32, records: [u8; 496]) ->
 
 // The order: each line mends what the line before it was refused for.
 fn orders() {
-    let mut area = [0u8; 496];
-    area[1] = 29;
+    let mut records = [0u8; 496];
+    records[1] = 29;
     let full = State::rebooted(4294967295);
     let unsound = full.with_mode(Mode::Physics);
-    let wrong = made(unsound, 0, 1, 4294967294, area);
-    let right = made(full, 0, 1, 4294967294, area);
+    let wrong = made(unsound, 0, 1, 4294967294, records);
+    let right = made(full, 0, 1, 4294967294, records);
     let bad = [0, 24, 0, 0, 0, 0, 0, 0, 0, 0, 0, 0];
     let noop = layout::event_bytes(Event::NoOp);
     step_short(b"511 lent, bad event, unsound, full", wrong, &bad);
@@ -194,28 +166,28 @@ fn events_refused() {
 
 // Logs that cannot have come about, at count 1, and first one that can.
 fn logs_refused() {
-    let mut area = [0u8; 496];
-    area[1] = 29;
-    area[7] = 1;
-    log(b"a sound log", 0, 1, 0, area);
-    log(b"used 63", 0, 63, 0, area);
-    log(b"block number over count before", 1, 1, 0, area);
-    log(b"count before over count", 0, 1, 2, area);
+    let mut records = [0u8; 496];
+    records[1] = 29;
+    records[7] = 1;
+    log(b"a sound log", 0, 1, 0, records);
+    log(b"used 63", 0, 63, 0, records);
+    log(b"block number over count before", 1, 1, 0, records);
+    log(b"count before over count", 0, 1, 2, records);
     log(b"used 0, counts unequal", 0, 0, 0, [0; 496]);
-    log(b"used 1, counts equal", 0, 1, 1, area);
-    let mut next = area;
+    log(b"used 1, counts equal", 0, 1, 1, records);
+    let mut next = records;
     next[8] = 1;
     log(b"the first byte beyond used", 0, 1, 0, next);
-    let mut last = area;
+    let mut last = records;
     last[495] = 1;
     log(b"the last byte beyond used", 0, 1, 0, last);
 }
 
-fn log(name: &[u8], block: u32, used: u16, before: u32, area: [u8; 496]) {
+fn log(name: &[u8], block: u32, used: u16, before: u32, records: [u8; 496]) {
     let noop = layout::event_bytes(Event::NoOp);
     step_whole(
         name,
-        made(State::rebooted(1), block, used, before, area),
+        made(State::rebooted(1), block, used, before, records),
         &noop,
     );
 }
@@ -319,40 +291,61 @@ fn untouched(lent: &[u8]) -> bool {
     all
 }
 
+// Each struct is taken apart by name, so that a field which nobody compares is an error of the compiler.
 fn same_manager(a: Manager, b: Manager) -> bool {
-    let x = a.head;
-    let y = b.head;
-    let numbers = (x.number == y.number) & (x.block == y.block);
-    let counts = (x.used == y.used) & (x.before == y.before);
-    let p = a.records;
-    let q = b.records;
-    numbers & counts & same_state(a.state, b.state) & same_area(p, q)
+    let Manager {
+        state,
+        head,
+        records,
+    } = a;
+    let others = b.records;
+    same_state(state, b.state) & same_head(head, b.head) & same_records(records, others)
 }
 
-fn same_area(p: [u8; 496], q: [u8; 496]) -> bool {
+fn same_head(a: Head, b: Head) -> bool {
+    let Head {
+        number,
+        block,
+        used,
+        before,
+    } = a;
+    (number == b.number) & (block == b.block) & (used == b.used) & (before == b.before)
+}
+
+fn same_records(p: [u8; 496], q: [u8; 496]) -> bool {
     check::same(&p, &q)
 }
 
 fn same_state(a: State, b: State) -> bool {
-    let flags = (a.saa == b.saa)
-        & (a.lci_awaited == b.lci_awaited)
-        & (a.lpa_awaited == b.lpa_awaited);
-    same_kinds(a, b) & flags & (a.armed == b.armed) & (a.count == b.count)
+    let State {
+        mode,
+        lci,
+        lpa,
+        lpa_mode,
+        saa,
+        lci_awaited,
+        lpa_awaited,
+        too,
+        armed,
+        count,
+    } = a;
+    let kinds = mode_and_tasks_are(b, mode, lci, lpa) & purpose_and_target_are(b, lpa_mode, too);
+    let awaited = (lci_awaited == b.lci_awaited) & (lpa_awaited == b.lpa_awaited);
+    let numbers = (armed == b.armed) & (count == b.count);
+    kinds & (saa == b.saa) & awaited & numbers
 }
 
-fn same_kinds(a: State, b: State) -> bool {
-    let mode = a.mode;
-    let mode_b = b.mode;
-    let lci = a.lci;
-    let lci_b = b.lci;
-    let lpa = a.lpa;
-    let lpa_b = b.lpa;
-    let lpa_mode = a.lpa_mode;
-    let lpa_mode_b = b.lpa_mode;
-    let too = a.too;
-    let too_b = b.too;
-    let tasks = lci.is(lci_b) & lpa.is(lpa_b) & lpa_mode.is(lpa_mode_b);
-    mode.is(mode_b) & tasks & too.is(too_b)
+fn mode_and_tasks_are(s: State, mode: Mode, lci: Task, lpa: Task) -> bool {
+    let found = s.mode;
+    let found_lci = s.lci;
+    let found_lpa = s.lpa;
+    found.is(mode) & found_lci.is(lci) & found_lpa.is(lpa)
+}
+
+fn purpose_and_target_are(s: State, lpa_mode: LpaMode, too: TooState) -> bool {
+    let found = s.lpa_mode;
+    let found_too = s.too;
+    found.is(lpa_mode) & found_too.is(too)
 }
 
 fn number(name: &[u8], n: u64) {
@@ -367,26 +360,4 @@ fn yes_or_no(name: &[u8], yes: bool) {
     } else {
         io::write_all(STDOUT_FILENO, b"no");
     }
-}
-
-// The check as the standard draws it: one bit at a time, over all that stands before it.
-fn bit_by_bit(block: &[u8; 512]) -> u16 {
-    let mut register: u16 = 0xFFFF;
-    for i in 0..510usize {
-        register = byte_fed(register, block[i]);
-    }
-    register
-}
-
-// Eight bits, the highest first: what leaves the register comes back at x^12, x^5 and 1.
-fn byte_fed(register: u16, byte: u8) -> u16 {
-    let mut taken = register ^ ((byte as u16) << 8);
-    for _ in 0..8u32 {
-        taken = if taken >> 15 == 1 {
-            (taken << 1) ^ 0x1021
-        } else {
-            taken << 1
-        };
-    }
-    taken
 }

@@ -5,6 +5,9 @@ use libc::STDOUT_FILENO;
 use reader::Read;
 use reader::Reader;
 use state::State;
+use trial_blocks::head;
+use trial_blocks::put;
+use trial_blocks::sealed;
 
 fn main() {
     the_table();
@@ -43,41 +46,6 @@ const STATUS_3: [u8; 8] = [0, 29, 0, 1, 0, 0, 0, 3];
 const STATUS_4: [u8; 8] = [0, 29, 0, 0, 0, 0, 0, 4];
 
 // Blocks ---------------------------------------------------------------------------------------------------------------------
-
-// The head of a block of log 7, and no records yet.
-fn head(number: u8, used: u8, before: u8) -> [u8; 512] {
-    let mut block = [0u8; 512];
-    block[3] = 7;
-    block[7] = number;
-    block[9] = used;
-    block[13] = before;
-    block
-}
-
-// A block with a record at a position.
-fn put(block: [u8; 512], at: usize, bytes: [u8; 8]) -> [u8; 512] {
-    let mut put = block;
-    if at < 62 {
-        put[14 + 8 * at] = bytes[0];
-        put[15 + 8 * at] = bytes[1];
-        put[16 + 8 * at] = bytes[2];
-        put[17 + 8 * at] = bytes[3];
-        put[18 + 8 * at] = bytes[4];
-        put[19 + 8 * at] = bytes[5];
-        put[20 + 8 * at] = bytes[6];
-        put[21 + 8 * at] = bytes[7];
-    }
-    put
-}
-
-// A block with its check.
-fn sealed(block: [u8; 512]) -> [u8; 512] {
-    let mut whole = block;
-    let check = bit_by_bit(&whole);
-    whole[510] = (check / 256) as u8;
-    whole[511] = (check % 256) as u8;
-    whole
-}
 
 // Block 0: STARTED, MAINFEEDON and LPASTART 8, an acquisition that is running at its end.
 fn block_0() -> [u8; 512] {
@@ -354,26 +322,4 @@ fn yes_or_no(name: &[u8], yes: bool) {
     } else {
         io::write_all(STDOUT_FILENO, b"no");
     }
-}
-
-// The check as the standard draws it: one bit at a time, over all that stands before it.
-fn bit_by_bit(block: &[u8; 512]) -> u16 {
-    let mut register: u16 = 0xFFFF;
-    for i in 0..510usize {
-        register = byte_fed(register, block[i]);
-    }
-    register
-}
-
-// Eight bits, the highest first: what leaves the register comes back at x^12, x^5 and 1.
-fn byte_fed(register: u16, byte: u8) -> u16 {
-    let mut fed = register ^ ((byte as u16) << 8);
-    for _ in 0..8u32 {
-        fed = if fed >> 15 == 1 {
-            (fed << 1) ^ 0x1021
-        } else {
-            fed << 1
-        };
-    }
-    fed
 }

@@ -1,0 +1,2 @@
+pub mod BitwiseLaws
+pub mod HandLaws
