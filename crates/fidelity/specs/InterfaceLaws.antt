@@ -1,5 +1,5 @@
 -- The interface, its one law: what the rules make of an event in a sound state is an event's draft. This file alone uses the laws of
--- the book.
+-- the rules.
 -- Assumes nothing.
 use Prim.Native.Nat.{ℕ, _+_, _^_, _<_}
 use mathlib.Core.Bool.{true}

@@ -1,5 +1,5 @@
 -- A pass, in the words of demand 3: what is asked of the manager, what it did and wrote, what was delivered to the ground, and what
--- the ground made of it. These are the words of the statement in Fidelity; all they rest on is what the contracts of `manager` and
+-- the ground made of it. These are the words of the statement in Fidelity; all they depend on is what the contracts of `manager` and
 -- `reader` cite.
 -- Assumes nothing.
 use Prim.Native.Nat.{ℕ, zero, suc, _+_, _-_, _*_}

@@ -1,5 +1,5 @@
 -- Answers of the manager: the refusals that an event can meet, those of its rule and NOTRUN in front, with their conditions; and that
--- they stand in the order of the book.
+-- these stand in their order.
 -- Assumes nothing.
 use Prim.Native.Nat.{ℕ, _+_}
 use mathlib.Core.Bool.{Bool, true, not, _&&_}
@@ -15,7 +15,7 @@ use Rattle.rules.specs.Rules.{ruleOf, unheard}
 abbrev pub refusalsOf : State → Event → List (Status × Bool)
 refusalsOf s e = (Status.NotRun, unheard s e) ∷ ruleOf s e .refusals
 
--- refusals that stand in the order of the book, from a place on
+-- refusals that stand in their order, from a place on
 abbrev pub inOrder : ℕ → List (Status × Bool) → Bool
 inOrder from [] = true
 inOrder from (x ∷ xs) = isRefusal (x .0) && (leb from (refusalPlace (x .0)) && inOrder (refusalPlace (x .0) + 1) xs)
