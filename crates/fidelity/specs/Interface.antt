@@ -1,8 +1,8 @@
 -- THE INTERFACE. All that the proof of fidelity uses of the mode rules, as one law of an event in a state: `ruled`, in InterfaceLaws. It is
--- put together from the laws of the book; the other files of this crate name no rule, and open neither a verdict, nor `sound`, nor `effect`. A new
--- event, rule, mode or record is paid for in the book and does not touch this crate.
+-- put together from the laws of the rules; the other files of this crate name no rule, and open neither a verdict, nor `sound`, nor `effect`. A new
+-- event, rule, mode or record is paid for in `rules` and `rule_laws` and does not touch this crate.
 --
--- Of the book: script-form, records-no-status, records-length, script-range, script-fits, next-count, next-sound, ruling-sized,
+-- Of the rules: script-form, records-no-status, records-length, script-range, script-fits, next-count, next-sound, ruling-sized,
 -- ruling-state, ruling-used, ruling-bytes.
 -- Of the state: one-more-below; effect-count (no record but STATUS changes the count). Opened: `rebooted`, that fresh has count 0, and `partsOfRecord`
 -- at STATUS, that v is the event's number.
@@ -10,8 +10,9 @@
 -- checked-length, block-intact, block-head; intact-length, intact-check, intact-other-length, intact-wrong-check. Opened: `blockBytes`,
 -- `checkedBytes`, `zerosBetween`.
 -- Of the reader: its table row by row (read-damaged, read-other-log, read-already, read-gap, read-in-turn), fresh-sound, read-sound,
--- content-read. Opened: `taken`, `closed`, `reads`.
--- Of the manager: what its own test of soundness tells (state-sound, log-clauses, used-before). Opened: `stepOf`, `flushOf`.
+-- content-read. Opened: `wentBy`, `wentClosed`, `reads`.
+-- Of the manager: which case a step and a flush come to (step-cases, flush-cases), and what its own test of soundness tells (state-sound,
+-- log-clauses, used-before). Opened: nothing.
 -- Assumes nothing.
 use Prim.Native.Nat.{_+_, _*_, _<_}
 use mathlib.Core.Bool.{true}

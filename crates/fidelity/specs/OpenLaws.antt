@@ -54,7 +54,7 @@ open-blank s h used before =
 
 -- One event more -------------------------------------------------------------------------------------------------------------
 
--- n bytes more behind m, where the string has both
+-- n bytes more after m, where the string has both
 stand-more : (records bytes xs ys : List ℕ) (m n : ℕ) → m ≤ length records → n ≤ length bytes → take m records ≡ xs → take n bytes ≡ ys
     → take (m + n) (paste records m bytes n) ≡ xs ++ ys
 stand-more records bytes xs ys m n room long first second = rw (take-paste records m bytes n room long, first, second)
@@ -115,8 +115,8 @@ module _ (s t : State) (h h′ : Head) (records : List ℕ) (d : Draft) (o : Ope
 regrouped : (a b c d : List ℕ) → (a ++ (b ++ c)) ++ d ≡ (a ++ b) ++ (c ++ d)
 regrouped a b c d = simp append-assoc
 
-drop-behind : (xs ys : List ℕ) (k n : ℕ) → length xs ≡ k → drop (k + n) (xs ++ ys) ≡ drop n ys
-drop-behind xs ys k n e = rw (← e) (drop-append-add xs ys n)
+drop-after : (xs ys : List ℕ) (k n : ℕ) → length xs ≡ k → drop (k + n) (xs ++ ys) ≡ drop n ys
+drop-after xs ys k n e = rw (← e) (drop-append-add xs ys n)
 
 stand-last : (b : List ℕ) (front : List Record) (r : Record) (at : ℕ) → StandIn b at (front ++ r ∷ [])
     → readRecord b (recordAt (at + length front)) ≡ Reading.Right r
@@ -148,7 +148,7 @@ module _ (s t : State) (h : Head) (records : List ℕ) (o : Open s h records t) 
   zeros-closed zero =
       rw (
         take-at (headBytes h ++ records) (two (checkOf (headBytes h ++ records))) CHECK-AT (unfold checkedBytes in checked-length h records (o .full)),
-        drop-behind (headBytes h) records RECORDS-AT (RECORD * h .used) (head-length h),
+        drop-after (headBytes h) records RECORDS-AT (RECORD * h .used) (head-length h),
       )
       (rw (take-all RECORDS records (omega (arith, o .full))) at zero)
 

@@ -92,7 +92,7 @@ eventNumber Reading.WrongV = 0
 unfoldable pub lastIn : List ℕ → ℕ
 lastIn b = eventNumber (readRecord b (RECORDS-AT + RECORD * (headOf b .used - 1)))
 
--- the number of the last event in some blocks, behind event n; 0 stands for the fresh state
+-- the number of the last event in some blocks, after event n; 0 stands for the fresh state
 abbrev pub lastAfter : ℕ → List (List ℕ) → ℕ
 lastAfter n [] = n
 lastAfter n (b ∷ bs) = lastAfter (lastIn b) bs

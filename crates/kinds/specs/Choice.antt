@@ -40,7 +40,7 @@ abbrev pub numbered : {A B : Type 0} → (A → ℕ) → (A → B) → B → Lis
 numbered number found unknown [] n = unknown
 numbered number found unknown (x ∷ xs) n = if eqb n (number x) then found x else numbered number found unknown xs n
 
--- what stands behind n in a table of numbers, or `other`
+-- what stands after n in a table of numbers, or `other`
 abbrev pub select : {A : Type 0} → ℕ → List (ℕ × A) → A → A
 select n [] other = other
 select n (row ∷ rows) other = if eqb n (row .0) then row .1 else select n rows other

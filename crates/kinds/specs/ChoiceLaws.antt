@@ -73,7 +73,7 @@ infixr 15 _and_
 abbrev pub _and_ : {A B : Type 0} → A → B → A × B
 a and b = (a, b)
 
--- P holds of each row, of its number and what stands behind it
+-- P holds of each row, of its number and what stands after it
 abbrev pub EachRow : {A : Type 0} → (ℕ → A → Type 0) → List (ℕ × A) → Type 0
 EachRow P [] = Unit {0}
 EachRow P (row ∷ rows) = P (row .0) (row .1) × EachRow P rows
@@ -120,21 +120,6 @@ pub record Kind {A B : Type 0} (number : A → ℕ) (found : A → B) (unknown :
   pub back : (x : A) → numbered number found unknown xs (number x) ≡ found x
 
 module _ {A B : Type 0} {number : A → ℕ} {found : A → B} {unknown : B} {xs : List A} (kind : Kind number found unknown xs) where
-  -- what is read from a number has that number
-  pub kind-number : (n : ℕ) (x : A) → numbered number found unknown xs n ≡ found x → number x ≡ n
-  kind-number n x =
-      numbered-holds (λ (b : B). b ≡ found x → number x ≡ n) number found unknown xs n
-      (λ y e same. rw (← kind .same y x same) e)
-      (λ none. absurd (true≢false (kind .apart x none)))
-
-  -- two of one number are one
-  pub kind-injective : (x y : A) → number x ≡ number y → x ≡ y
-  kind-injective x y e = kind .same x y (cc (kind .back x, kind .back y, ap (numbered number found unknown xs) e))
-
-  -- the test that compares the numbers tells sameness
-  pub kind-is : (x y : A) → eqb (number x) (number y) ≡ true → x ≡ y
-  kind-is x y e = kind-injective x y (eqb-true (number x) (number y) e)
-
   -- what all the listed pass, every member passes: the list leaves none out
   pub kind-every : (test : A → Bool) → every test xs ≡ true → (x : A) → test x ≡ true
   kind-every test all x =

@@ -1,5 +1,6 @@
--- State, and Answers of the manager: the kinds and their numbers. Each number of the paper's tables stands here once; everything
--- else goes by the names. A number is read back as the kind that has it, and as no kind where none has.
+-- State, and Answers of the manager: the kinds and their numbers, each of which stands here once; everything else goes by the names.
+-- The codes of events and of records stand on their own floors. A number is read back as the kind that has it, and as no kind where
+-- none has.
 -- Assumes nothing.
 use Prim.Native.Nat.{ℕ}
 use mathlib.Core.Bool.{Bool, true, false}

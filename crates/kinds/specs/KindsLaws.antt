@@ -6,7 +6,7 @@ use mathlib.Core.Bool.{Bool, true, false}
 use mathlib.Core.List.{[], _∷_, map}
 use mathlib.Core.Path.{_≡_, refl, ap}
 use Rattle.kinds.specs.Choice.{numbered, every}
-use Rattle.kinds.specs.ChoiceLaws.{Kind, kind-number, kind-is, kind-every, kind-below}
+use Rattle.kinds.specs.ChoiceLaws.{Kind, kind-every, kind-below}
 use Rattle.kinds.specs.Kinds.{modeNumber, modes, modeOf, modeIs}
 use Rattle.kinds.specs.Kinds.{taskNumber, tasks, taskOf, taskIs}
 use Rattle.kinds.specs.Kinds.{lpaModeNumber, lpaModes, lpaModeOf, lpaModeIs}
@@ -37,12 +37,6 @@ mode-back Mode.Too = refl
 mode-kind : Kind modeNumber FoundMode.Found FoundMode.Unknown modes
 mode-kind = record { same = λ x y e. cc; apart = λ x e. cc; back = mode-back }
 
-pub mode-number : (n : ℕ) (m : Mode) → modeOf n ≡ FoundMode.Found m → modeNumber m ≡ n
-mode-number n m e = kind-number mode-kind n m e
-
-pub mode-is : (m k : Mode) → modeIs m k ≡ true → m ≡ k
-mode-is m k e = kind-is mode-kind m k e
-
 pub mode-every : (test : Mode → Bool) → every test modes ≡ true → (m : Mode) → test m ≡ true
 mode-every test all m = kind-every mode-kind test all m
 
@@ -57,12 +51,6 @@ task-back Task.Stopping = refl
 task-kind : Kind taskNumber FoundTask.Found FoundTask.Unknown tasks
 task-kind = record { same = λ x y e. cc; apart = λ x e. cc; back = task-back }
 
-pub task-number : (n : ℕ) (t : Task) → taskOf n ≡ FoundTask.Found t → taskNumber t ≡ n
-task-number n t e = kind-number task-kind n t e
-
-pub task-is : (t k : Task) → taskIs t k ≡ true → t ≡ k
-task-is t k e = kind-is task-kind t k e
-
 pub task-every : (test : Task → Bool) → every test tasks ≡ true → (t : Task) → test t ≡ true
 task-every test all t = kind-every task-kind test all t
 
@@ -75,12 +63,6 @@ lpa-mode-back LpaMode.Too = refl
 
 lpa-mode-kind : Kind lpaModeNumber FoundLpaMode.Found FoundLpaMode.Unknown lpaModes
 lpa-mode-kind = record { same = λ x y e. cc; apart = λ x e. cc; back = lpa-mode-back }
-
-pub lpa-mode-number : (n : ℕ) (m : LpaMode) → lpaModeOf n ≡ FoundLpaMode.Found m → lpaModeNumber m ≡ n
-lpa-mode-number n m e = kind-number lpa-mode-kind n m e
-
-pub lpa-mode-is : (m k : LpaMode) → lpaModeIs m k ≡ true → m ≡ k
-lpa-mode-is m k e = kind-is lpa-mode-kind m k e
 
 pub lpa-mode-every : (test : LpaMode → Bool) → every test lpaModes ≡ true → (m : LpaMode) → test m ≡ true
 lpa-mode-every test all m = kind-every lpa-mode-kind test all m
@@ -96,12 +78,6 @@ too-state-back TooState.Started = refl
 too-state-kind : Kind tooStateNumber FoundTooState.Found FoundTooState.Unknown tooStates
 too-state-kind = record { same = λ x y e. cc; apart = λ x e. cc; back = too-state-back }
 
-pub too-state-number : (n : ℕ) (t : TooState) → tooStateOf n ≡ FoundTooState.Found t → tooStateNumber t ≡ n
-too-state-number n t e = kind-number too-state-kind n t e
-
-pub too-state-is : (t k : TooState) → tooStateIs t k ≡ true → t ≡ k
-too-state-is t k e = kind-is too-state-kind t k e
-
 pub too-state-every : (test : TooState → Bool) → every test tooStates ≡ true → (t : TooState) → test t ≡ true
 too-state-every test all t = kind-every too-state-kind test all t
 
@@ -114,9 +90,6 @@ flag-back true = refl
 
 flag-kind : Kind flagNumber FoundFlag.Found FoundFlag.Unknown flags
 flag-kind = record { same = λ x y e. cc; apart = λ x e. cc; back = flag-back }
-
-pub flag-number : (n : ℕ) (b : Bool) → flagOf n ≡ FoundFlag.Found b → flagNumber b ≡ n
-flag-number n b e = kind-number flag-kind n b e
 
 pub flag-every : (test : Bool → Bool) → every test flags ≡ true → (b : Bool) → test b ≡ true
 flag-every test all b = kind-every flag-kind test all b
@@ -140,9 +113,6 @@ status-back Status.Stale = refl
 
 status-kind : Kind statusNumber FoundStatus.Found FoundStatus.Unknown statuses
 status-kind = record { same = λ x y e. cc; apart = λ x e. cc; back = status-back }
-
-pub status-number : (n : ℕ) (s : Status) → statusOf n ≡ FoundStatus.Found s → statusNumber s ≡ n
-status-number n s e = kind-number status-kind n s e
 
 pub status-fits : (s : Status) → statusNumber s < 2 ^ 16
 status-fits s = kind-below status-kind (2 ^ 16) refl s

@@ -78,7 +78,7 @@ join4-bytes a b c d ha hb hc hd =
 pub bytes-dropped : (s : List ℕ) (n : ℕ) → AreBytes s → AreBytes (drop n s)
 bytes-dropped s n bytes i = rw (getD-drop n s i 0) (bytes (n + i))
 
--- a read sees only what is behind its place
+-- a read sees only what stands from its place on
 pub u16-dropped : (s : List ℕ) (n i : ℕ) → u16At (drop n s) i ≡ u16At s (n + i)
 unfolding u16At
 u16-dropped s n i = rw (getD-drop n s i 0, getD-drop n s (i + 1) 0, add-assoc n i 1)
@@ -96,14 +96,14 @@ u32-dropped s n i =
       add-assoc n i 3,
     )
 
--- behind a string that is put in front, all is read as before
-pub u16-behind : (pre s : List ℕ) (i : ℕ) → u16At (pre ++ s) (length pre + i) ≡ u16At s i
-u16-behind pre s i = rw (← u16-dropped (pre ++ s) (length pre) i, drop-append-seam pre s)
+-- after a string that is put in front, all is read as before
+pub u16-after : (pre s : List ℕ) (i : ℕ) → u16At (pre ++ s) (length pre + i) ≡ u16At s i
+u16-after pre s i = rw (← u16-dropped (pre ++ s) (length pre) i, drop-append-seam pre s)
 
-pub u32-behind : (pre s : List ℕ) (i : ℕ) → u32At (pre ++ s) (length pre + i) ≡ u32At s i
-u32-behind pre s i = rw (← u32-dropped (pre ++ s) (length pre) i, drop-append-seam pre s)
+pub u32-after : (pre s : List ℕ) (i : ℕ) → u32At (pre ++ s) (length pre + i) ≡ u32At s i
+u32-after pre s i = rw (← u32-dropped (pre ++ s) (length pre) i, drop-append-seam pre s)
 
--- in front of a string that is put behind, too
+-- before a string that is put after it, too
 pub u16-front : (a b : List ℕ) (i : ℕ) → i + 2 ≤ length a → u16At (a ++ b) i ≡ u16At a i
 unfolding u16At
 u16-front a b i room =
@@ -127,7 +127,7 @@ two-read-front post n fits = two-joined n fits
 
 pub two-read : (pre post : List ℕ) (n : ℕ) → n < 2 ^ 16 → u16At (pre ++ two n ++ post) (length pre) ≡ n
 two-read pre post n fits =
-    rw (append-assoc pre (two n) post, ← add-zero (length pre), u16-behind pre (two n ++ post) 0) (two-read-front post n fits)
+    rw (append-assoc pre (two n) post, ← add-zero (length pre), u16-after pre (two n ++ post) 0) (two-read-front post n fits)
 
 four-read-front : (post : List ℕ) (n : ℕ) → n < 2 ^ 32 → u32At (four n ++ post) 0 ≡ n
 unfolding u32At four
@@ -135,14 +135,11 @@ four-read-front post n fits = four-joined n fits
 
 pub four-read : (pre post : List ℕ) (n : ℕ) → n < 2 ^ 32 → u32At (pre ++ four n ++ post) (length pre) ≡ n
 four-read pre post n fits =
-    rw (append-assoc pre (four n) post, ← add-zero (length pre), u32-behind pre (four n ++ post) 0) (four-read-front post n fits)
+    rw (append-assoc pre (four n) post, ← add-zero (length pre), u32-after pre (four n ++ post) 0) (four-read-front post n fits)
 
 -- the same, where the place is known only by an equation
 pub two-read-at : (pre post : List ℕ) (n at : ℕ) → length pre ≡ at → n < 2 ^ 16 → u16At (pre ++ two n ++ post) at ≡ n
 two-read-at pre post n at e fits = rw (← e) (two-read pre post n fits)
-
-pub four-read-at : (pre post : List ℕ) (n at : ℕ) → length pre ≡ at → n < 2 ^ 32 → u32At (pre ++ four n ++ post) at ≡ n
-four-read-at pre post n at e fits = rw (← e) (four-read pre post n fits)
 
 -- What is read is what stands there ------------------------------------------------------------------------------------------
 
@@ -156,10 +153,6 @@ module _ (s : List ℕ) (i : ℕ) (bytes : AreBytes s) where
   four-written =
       join4-bytes (getD s i 0) (getD s (i + 1) 0) (getD s (i + 2) 0) (getD s (i + 3) 0)
       (bytes i) (bytes (i + 1)) (bytes (i + 2)) (bytes (i + 3))
-
-  pub u16-fits : u16At s i < 2 ^ 16
-  unfolding u16At
-  u16-fits = omega (arith, bytes i, bytes (i + 1))
 
   pub u32-fits : u32At s i < 2 ^ 32
   unfolding u32At

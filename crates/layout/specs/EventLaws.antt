@@ -20,10 +20,6 @@ event-parts-length : (p : EventParts) → length (eventPartsBytes p) ≡ EVENT
 unfolding eventPartsBytes
 event-parts-length p = simp (length-append, two-length, four-length)
 
-pub event-bytes-length : (e : Event) → length (eventBytes e) ≡ EVENT
-unfolding eventBytes
-event-bytes-length e = event-parts-length (partsOfEvent e)
-
 event-parts-read : (p : EventParts) → p .code < 2 ^ 16 → p .zero < 2 ^ 16 → p .a < 2 ^ 32 → p .b < 2 ^ 32
     → eventPartsAt (eventPartsBytes p) ≡ p
 unfolding eventPartsAt eventPartsBytes u16At u32At two four

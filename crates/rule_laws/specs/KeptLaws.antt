@@ -1,4 +1,4 @@
--- State, the law of the book: an event's records leave the shape of a sound state sound, and leave room for the STATUS. Each event is
+-- State, the law of the rules: an event's records leave the shape of a sound state sound, and leave room for the STATUS. Each event is
 -- tried in all outlines, once for all.
 -- Assumes nothing.
 use Prim.Native.Nat.{ℕ, _<_}

@@ -1,4 +1,4 @@
--- The laws of the book: what holds of every event in every sound state, whatever the rules say in detail.
+-- The laws of the rules: what holds of every event in every sound state, whatever the rules say in detail.
 -- Assumes nothing.
 pub mod Refusals
 pub mod RefusalLaws

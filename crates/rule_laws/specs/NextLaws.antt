@@ -1,4 +1,4 @@
--- State, the law of the book: soundness is kept by every event, while there is a number for it.
+-- State, the law of the rules: soundness is kept by every event, while there is a number for it.
 -- Assumes nothing.
 use Prim.Native.Nat.{_<_}
 use mathlib.Core.Bool.{true}

@@ -153,7 +153,7 @@ pub verdict-records : (P : List Record → Type 0) (s : State) (e : Event)
 unfolding verdictOf
 verdict-records P s e none some = unless-records (taken s e) P (refusalsOf s e) none some
 
--- The laws of the book -------------------------------------------------------------------------------------------------------
+-- The laws of the rules -------------------------------------------------------------------------------------------------------
 
 pub refusals-ordered : (s : State) (e : Event) → inOrder 0 (refusalsOf s e) ≡ true
 refusals-ordered s e = rule-formed s e .0

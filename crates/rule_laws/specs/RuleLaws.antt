@@ -1,4 +1,4 @@
--- The laws of the book on one page: all that the log, the reader and the great theorem may use of the mode rules.
+-- The laws of the rules on one page: all that the log, the reader and the great theorem may use of the mode rules.
 -- Assumes nothing.
 -- the next state
 pub use Rattle.rule_laws.specs.NextLaws.{next-sound}

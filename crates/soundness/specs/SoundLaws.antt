@@ -13,10 +13,6 @@ pub fresh-sound : sound fresh ≡ true
 unfolding sound shapeSound calibrationSound physicsSound tooSound bootSound rebooted
 fresh-sound = refl
 
-pub fresh-count : fresh .count ≡ 0
-unfolding rebooted
-fresh-count = refl
-
 pub sound-shape : (s : State) → sound s ≡ true → shapeSound s ≡ true
 unfolding sound
 sound-shape s ok = and-left (shapeSound s) (numbersSound s) ok

@@ -130,7 +130,7 @@ pub parsed-hex : (w : List ℕ) (r : Parsed) → 3 ≤ length w → getD w 0 0 �
 unfolding parsed
 parsed-hex w r l is x e = rw (le-ltb (length w) 3 l, eq-eqb (getD w 0 0) 48 is, eq-eqb (getD w 1 0) 120 x) e
 
--- the part of the word behind 0x, as the code takes it
+-- the part of the word after 0x, as the code takes it
 pub parsed-rest : (w : List ℕ) (r : Parsed) → 3 ≤ length w → getD w 0 0 ≡ 48 → getD w 1 0 ≡ 120
     → r ≡ digitsOf (take (length w - 2) (drop 2 w)) true → r ≡ parsed w
 parsed-rest w r l is x e =

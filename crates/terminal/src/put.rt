@@ -45,7 +45,7 @@ pub fn text(fd: i32, out: &mut [u8; BUFFER], at: usize, s: &[u8]) -> usize
     at + s.len()
 }
 
-// A text that does not fit behind what is there.
+// A text that does not fit after what is there.
 fn text_next(fd: i32, out: &mut [u8; BUFFER], at: usize, s: &[u8]) -> usize
     ensures { λ r. ⌜ r ≤ 65537 ⌝ }
 {
