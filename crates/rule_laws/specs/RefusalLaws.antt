@@ -1,5 +1,5 @@
--- Answers of the manager, laws: an event is refused exactly where the condition of a refusal holds, with the first in the order of
--- the book whose condition does; a refusal has no records but its STATUS. What a rule says in any state, sound or not, stands here too.
+-- Answers of the manager, laws: an event is refused exactly where the condition of a refusal holds, with the first in their order
+-- whose condition does; a refusal has no records but its STATUS. What a rule says in any state, sound or not, stands here too.
 -- Assumes nothing.
 use Prim.Native.Nat.{ℕ, _+_, _≤_}
 use mathlib.Core.Bool.{Bool, true, false, _&&_, _||_, and-false, or-true, true≢false}
