@@ -5,6 +5,6 @@ use mathlib.Core.List.{List}
 use lib.ListN.{length}
 use lib.Seq.{paste}
 
--- where it fits, it stands from `at` on, nothing else has changed, and `next` is the place behind it
+-- where it fits, it stands from `at` on, nothing else has changed, and `next` is the place after it
 abbrev pub Placed : List ℕ → ℕ → List ℕ → ℕ → List ℕ → Type 0
 Placed before at s next after = at + length s ≤ 65536 → (next ≡ at + length s) × (after ≡ paste before at s (length s))

@@ -2,7 +2,7 @@
 use crate::numeral::Parsed;
 use crate::numeral::parse;
 
-// The one word behind the program's name, as a number: no number where there is none, or more than one.
+// The one word after the program's name, as a number: no number where there is none, or more than one.
 pub fn only_number() -> Parsed {
     if os::arg_count() != 2 {
         return Parsed::NoNumber;
@@ -12,7 +12,7 @@ pub fn only_number() -> Parsed {
     parse(&word[..n])
 }
 
-// Whether there is no word behind the program's name.
+// Whether there is no word after the program's name.
 pub fn none_given() -> bool {
     os::arg_count() == 1
 }
