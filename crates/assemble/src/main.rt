@@ -107,7 +107,7 @@ fn take(text: Text, b: u8, space: &mut [u8; LONGEST], out: &mut [u8; BUFFER]) ->
     without_mark(after, space)
 }
 
-// The first three bytes of a text are left out where they are the mark that some editors put there.
+// The first three bytes of a text are left out where they are a byte order mark, which some editors put there.
 fn without_mark(text: Text, space: &[u8; LONGEST]) -> Text {
     if text.length < 3 {
         return text;
