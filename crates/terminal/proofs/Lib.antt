@@ -1,4 +1,5 @@
-pub mod CopyLaws
 pub mod InputLaws
 pub mod NumeralLaws
+pub mod PartLaws
+pub mod PutLaws
 pub mod TurnsLaws

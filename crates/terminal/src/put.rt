@@ -2,7 +2,6 @@
 ghost use Prim.Native.Nat.{_≤_, _<_, _+_};
 ghost use mathlib.Core.Path.{_≡_};
 ghost use lib.ListN.{length, set};
-ghost use lib.Seq.{paste};
 ghost use Rattle.terminal.specs.Put.{Placed};
 use crate::output::write_whole;
 
@@ -35,28 +34,24 @@ pub fn text(fd: i32, out: &mut [u8; BUFFER], at: usize, s: &[u8]) -> usize
     ensures { λ r. ⌜ Placed (now (out .entry)) at (now (s .entry)) r (now (out .exit)) ⌝ }
     ensures { λ r. ⌜ (65536 < at → r ≡ 65537) ⌝ }
 {
-    if at > BUFFER {
-        return BROKEN;
+    if copy::copy(s, s.len(), out, at) {
+        return at + s.len();
     }
-    if s.len() > BUFFER - at {
-        return text_next(fd, out, at, s);
-    }
-    copy(s, out, at);
-    at + s.len()
+    text_next(fd, out, at, s)
 }
 
-// A text that does not fit behind what is there.
+// A text that does not fit after what is there.
 fn text_next(fd: i32, out: &mut [u8; BUFFER], at: usize, s: &[u8]) -> usize
     ensures { λ r. ⌜ r ≤ 65537 ⌝ }
+    ensures { λ r. ⌜ (65536 < at → r ≡ 65537) ⌝ }
 {
     if flush(fd, out, at) == BROKEN {
         return BROKEN;
     }
-    if s.len() > BUFFER {
-        return after(write_whole(fd, s));
+    if copy::copy(s, s.len(), out, 0) {
+        return s.len();
     }
-    copy(s, out, 0);
-    s.len()
+    after(write_whole(fd, s))
 }
 
 // A number in decimal.
@@ -96,16 +91,4 @@ fn after(went: bool) -> usize
     ensures { λ r. ⌜ (r < 65537 → r ≡ 0) ⌝ }
 {
     if went { 0 } else { BROKEN }
-}
-
-// A plain loop, of which the compiler makes one move of memory.
-pub(crate) fn copy(s: &[u8], out: &mut [u8], at: usize)
-    requires { ⌜ at + length (now s) ≤ length (now out) ⌝ }
-    ensures { λ _. ⌜ now (out .exit) ≡ paste (now (out .entry)) at (now (s .entry)) (length (now (s .entry))) ⌝ }
-{
-    let mut i: usize = 0;
-    while i < s.len() {
-        out[at + i] = s[i];
-        i += 1;
-    }
 }

@@ -1,6 +1,5 @@
 // A line to standard error, written at once so that lines of several programs do not mix.
 ghost use Prim.Native.Nat.{_≤_};
-use crate::put::copy;
 use crate::put::write_first;
 use libc::STDERR_FILENO;
 
@@ -18,16 +17,13 @@ pub fn tell(before: &[u8], n: u64, after: &[u8]) {
 }
 
 fn add(line: &mut [u8; LINE], at: usize, s: &[u8]) -> usize
+    requires { ⌜ at ≤ 256 ⌝ }
     ensures { λ r. ⌜ r ≤ 256 ⌝ }
 {
-    if at > LINE {
-        return LINE;
+    if copy::copy(s, s.len(), line, at) {
+        return at + s.len();
     }
-    if s.len() > LINE - at {
-        return at;
-    }
-    copy(s, line, at);
-    at + s.len()
+    at
 }
 
 fn send(line: &[u8; LINE], at: usize)

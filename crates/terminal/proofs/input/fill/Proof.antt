@@ -3,7 +3,7 @@ use borrow.Author.Needs.{needs}
 use Prim.Native.Nat.{_≤_, _-_}
 use mathlib.Core.Path.{_≡_}
 use lib.ListN.{length}
-use Rattle.terminal.proofs.CopyLaws.{taken}
+use Rattle.terminal.proofs.PartLaws.{taken}
 use Rattle.terminal.proofs.input.fill.Statement.{statement}
 use Rattle.terminal.proofs.input.fill.Tie as tie
 

@@ -1,6 +1,6 @@
 -- `put::write_first` is safe and ends: the part has the length that was asked. Assumes nothing.
 use borrow.Author.Needs.{needs}
-use Rattle.terminal.proofs.CopyLaws.{taken}
+use Rattle.terminal.proofs.PartLaws.{taken}
 use Rattle.terminal.proofs.put.write_first.Statement.{statement}
 use Rattle.terminal.proofs.put.write_first.Tie as tie
 
