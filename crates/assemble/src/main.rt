@@ -1,10 +1,8 @@
 // A text of events, one to a line, made into their bytes (Events). A line that cannot be read is told on standard error.
-mod line;
-mod names;
-
 use libc::STDOUT_FILENO;
-use line::Expected;
-use line::Kind;
+use names::Content;
+use names::Expected;
+use names::Line;
 use terminal::BUFFER;
 use terminal::Messages;
 use terminal::TURNS;
@@ -139,18 +137,27 @@ fn write(text: Text, space: &[u8], out: &mut [u8; BUFFER]) -> Text {
     if text.long {
         return with_wrong(text, Expected::Short);
     }
-    let read = line::read(space, text.length);
-    let kind = read.kind;
-    let bytes = read.bytes;
-    match kind {
-        Kind::Nothing => text,
-        Kind::Event => {
+    let line = read(space, text.length);
+    let content = line.content;
+    let bytes = line.bytes;
+    match content {
+        Content::Nothing => text,
+        Content::Event => {
             let mut after = text;
             after.at = terminal::text(STDOUT_FILENO, out, text.at, &bytes);
             after
         },
-        Kind::Wrong(expected) => with_wrong(text, expected),
+        Content::Wrong(expected) => with_wrong(text, expected),
     }
+}
+
+// The line that stands at the start of the space.
+fn read(space: &[u8], length: usize) -> Line {
+    if space.len() <= length {
+        return names::read_line(space);
+    }
+    let start: usize = 0;
+    names::read_line(&space[start..length])
 }
 
 // A line that could not be read is told by its number, and after twenty only counted.

@@ -1,10 +1,8 @@
 // Strings as long as a block to a fresh ground reader: a line a string with what it answers and holds (The ground reader).
 use blocks::BLOCK;
-use kinds::Mode;
 use libc::STDERR_FILENO;
 use libc::STDOUT_FILENO;
 use reader::Reader;
-use state::State;
 use terminal::BROKEN;
 use terminal::BUFFER;
 use terminal::Parsed;
@@ -30,12 +28,9 @@ fn main() {
 
 fn hear(log: u32) {
     let mut out = [0u8; BUFFER];
-    let at = terminal::text(
-        STDOUT_FILENO,
-        &mut out,
-        0,
-        b"an next heard behind mode lci lpa lpm saa lciw lpaw too arm ev\n",
-    );
+    let at = terminal::text(STDOUT_FILENO, &mut out, 0, b"an next heard behind ");
+    let at = terminal::text(STDOUT_FILENO, &mut out, at, &names::DESK_HEAD);
+    let at = terminal::byte(STDOUT_FILENO, &mut out, at, b'\n');
     let heard = all(log, &mut out, at);
     let at = terminal::flush(STDOUT_FILENO, &out, heard.at);
     if at != BROKEN {
@@ -78,35 +73,27 @@ fn one(heard: Heard, string: &[u8], out: &mut [u8; BUFFER]) -> Heard {
     let reader = read.reader;
     let state = reader.state;
     let at = terminal::number(STDOUT_FILENO, out, heard.at, answer.number() as u64);
-    let at = column(out, at, reader.next as u64);
-    let at = column(out, at, reader.heard as u64);
-    let at = column(out, at, kinds::flag::number(reader::behind(reader)) as u64);
-    let at = columns(out, at, state);
+    let at = column(out, at, reader.next);
+    let at = column(out, at, reader.heard);
+    let at = column(out, at, kinds::flag::number(reader::behind(reader)));
+    let at = columns(out, at, &names::desk_columns(state));
     let at = terminal::byte(STDOUT_FILENO, out, at, b'\n');
     Heard { reader, at }
 }
 
-fn columns(out: &mut [u8; BUFFER], at: usize, state: State) -> usize {
-    let mode = state.mode;
-    let lci = state.lci;
-    let lpa = state.lpa;
-    let lpa_mode = state.lpa_mode;
-    let too = state.too;
-    let at = column(out, at, mode.number() as u64);
-    let at = column(out, at, lci.number() as u64);
-    let at = column(out, at, lpa.number() as u64);
-    let at = column(out, at, lpa_mode.number() as u64);
-    let at = column(out, at, kinds::flag::number(state.saa) as u64);
-    let at = column(out, at, kinds::flag::number(state.lci_awaited) as u64);
-    let at = column(out, at, kinds::flag::number(state.lpa_awaited) as u64);
-    let at = column(out, at, too.number() as u64);
-    let at = column(out, at, state.armed as u64);
-    column(out, at, state.count as u64)
+fn columns(out: &mut [u8; BUFFER], from: usize, numbers: &[u32]) -> usize {
+    let mut at = from;
+    let mut i: usize = 0;
+    while i < numbers.len() {
+        at = column(out, at, numbers[i]);
+        i += 1;
+    }
+    at
 }
 
-fn column(out: &mut [u8; BUFFER], at: usize, n: u64) -> usize {
+fn column(out: &mut [u8; BUFFER], at: usize, n: u32) -> usize {
     let at = terminal::byte(STDOUT_FILENO, out, at, b' ');
-    terminal::number(STDOUT_FILENO, out, at, n)
+    terminal::number(STDOUT_FILENO, out, at, n as u64)
 }
 
 // The sentence at the end, for people.
@@ -115,7 +102,8 @@ fn sum_up(reader: Reader) {
     let state = reader.state;
     let at = say(&mut line, 0, b"desk: the instrument is in mode ");
     let mode = state.mode;
-    let at = say_mode(&mut line, at, mode);
+    let name = names::mode(mode);
+    let at = say(&mut line, at, names::first_word(&name));
     let at = say_event(&mut line, at, state.count);
     let at = say_behind(&mut line, at, reader);
     terminal::flush(STDERR_FILENO, &line, at);
@@ -123,18 +111,6 @@ fn sum_up(reader: Reader) {
 
 fn say(line: &mut [u8; BUFFER], at: usize, s: &[u8]) -> usize {
     terminal::text(STDERR_FILENO, line, at, s)
-}
-
-fn say_mode(line: &mut [u8; BUFFER], at: usize, mode: Mode) -> usize {
-    match mode {
-        Mode::Boot => say(line, at, b"BOOT"),
-        Mode::Terminal => say(line, at, b"TERMINAL"),
-        Mode::Quiescent => say(line, at, b"QUIESCENT"),
-        Mode::Hold => say(line, at, b"HOLD"),
-        Mode::Calibration => say(line, at, b"CALIBRATION"),
-        Mode::Physics => say(line, at, b"PHYSICS"),
-        Mode::Too => say(line, at, b"TOO"),
-    }
 }
 
 fn say_event(line: &mut [u8; BUFFER], at: usize, count: u32) -> usize {

@@ -5,7 +5,6 @@ use kinds::Answer;
 use layout::EVENT;
 use libc::STDOUT_FILENO;
 use manager::Manager;
-use state::State;
 use terminal::BUFFER;
 use terminal::TURNS;
 
@@ -28,12 +27,9 @@ fn main() {
 
 fn list_all() {
     let mut out = [0u8; BUFFER];
-    let at = terminal::text(
-        STDOUT_FILENO,
-        &mut out,
-        0,
-        b"ev st mode lci lpa saa too arm rec\n",
-    );
+    let at = terminal::text(STDOUT_FILENO, &mut out, 0, b"ev st ");
+    let at = terminal::text(STDOUT_FILENO, &mut out, at, &names::LISTING_HEAD);
+    let at = terminal::text(STDOUT_FILENO, &mut out, at, b" rec\n");
     let listed = all(&mut out, at);
     terminal::flush(STDOUT_FILENO, &out, listed.at);
 }
@@ -78,22 +74,22 @@ fn one(listed: Listed, event: &[u8], out: &mut [u8; BUFFER]) -> Listed {
     let records = added(before, head, stepped.written);
     let answer = stepped.answer;
     let at = event_number(out, listed.at, answer, state.count);
-    let at = column(out, at, answer.number() as u64);
-    let at = columns(out, at, state);
+    let at = column(out, at, answer.number() as u32);
+    let at = columns(out, at, &names::listing_columns(state));
     let at = column(out, at, records);
     let at = terminal::byte(STDOUT_FILENO, out, at, b'\n');
     Listed { manager: after, at }
 }
 
 // The records that an event put into the log: all of the open block's where the event began it.
-fn added(before: Head, after: Head, written: bool) -> u64 {
+fn added(before: Head, after: Head, written: bool) -> u32 {
     if written {
-        return after.used as u64;
+        return after.used as u32;
     }
     if after.used < before.used {
         return 0;
     }
-    (after.used - before.used) as u64
+    (after.used - before.used) as u32
 }
 
 // The number of an event that is in the log.
@@ -104,20 +100,17 @@ fn event_number(out: &mut [u8; BUFFER], at: usize, answer: Answer, count: u32) -
     }
 }
 
-fn columns(out: &mut [u8; BUFFER], at: usize, state: State) -> usize {
-    let mode = state.mode;
-    let lci = state.lci;
-    let lpa = state.lpa;
-    let too = state.too;
-    let at = column(out, at, mode.number() as u64);
-    let at = column(out, at, lci.number() as u64);
-    let at = column(out, at, lpa.number() as u64);
-    let at = column(out, at, kinds::flag::number(state.saa) as u64);
-    let at = column(out, at, too.number() as u64);
-    column(out, at, state.armed as u64)
+fn columns(out: &mut [u8; BUFFER], from: usize, numbers: &[u32]) -> usize {
+    let mut at = from;
+    let mut i: usize = 0;
+    while i < numbers.len() {
+        at = column(out, at, numbers[i]);
+        i += 1;
+    }
+    at
 }
 
-fn column(out: &mut [u8; BUFFER], at: usize, n: u64) -> usize {
+fn column(out: &mut [u8; BUFFER], at: usize, n: u32) -> usize {
     let at = terminal::byte(STDOUT_FILENO, out, at, b' ');
-    terminal::number(STDOUT_FILENO, out, at, n)
+    terminal::number(STDOUT_FILENO, out, at, n as u64)
 }

@@ -3,7 +3,7 @@
 use Prim.Native.Nat.{ℕ, _*_}
 use mathlib.Core.Bool.{Bool, true, false}
 use mathlib.Core.List.{List}
-use mathlib.Core.Path.{_≡_, refl, _∙_, sym, ap}
+use mathlib.Core.Path.{_≡_, refl, _∙_, sym}
 use lib.ListN.{length}
 use borrow.Author.Tests.{eq-eqb, ne-eqb}
 use Rattle.kinds.specs.Choice.{every}
@@ -14,7 +14,7 @@ use Rattle.layout.specs.Event.{EVENT, eventBytes}
 use Rattle.terminal.specs.declared.numeral.Parsed.{Parsed}
 use Rattle.names.specs.Text.{bytes, firstWord, afterSeparators, afterWord, sameWord}
 use Rattle.names.specs.EventNames.{eventCode, eventNumbers}
-use Rattle.names.specs.Line.{noLine, wrongLine, eventLine, lineOf, namedLine, numberedLine, firstNumber, foundLine, madeLine}
+use Rattle.names.specs.Line.{noLine, wrongLine, eventLine, lineOf, namedLine, numberedLine, firstNumber, madeLine}
 use Rattle.names.specs.Line.{wordsIn, numberOf, expectedAfter, rawLine, isHexDigit, rawBytes}
 use Rattle.names.specs.declared.line.Expected.{Expected}
 use Rattle.names.specs.declared.line.Line.{Line}

@@ -46,18 +46,21 @@ module _ (separators : Bool) (t : List ℕ) (i n : ℕ) where
   pub leading-stops : i < length t → (d : Bool) → d ≡ ends (getD t i 0) separators → d ≡ true
       → i + leading separators (drop i t) ≡ n → i ≡ n
   leading-stops more d is other e =
-      let zero-left : leading separators (drop i t) ≡ 0 = ap (leading separators) (left-cons t i more) ∙ none-more separators (getD t i 0) (drop (i + 1) t) (sym is ∙ other)
+      let zero-left : leading separators (drop i t) ≡ 0 =
+      ap (leading separators) (left-cons t i more) ∙ none-more separators (getD t i 0) (drop (i + 1) t) (sym is ∙ other)
       in omega (arith, e, zero-left)
 
   pub leading-turn : i < length t → (d : Bool) → d ≡ ends (getD t i 0) separators → d ≡ false
       → i + leading separators (drop i t) ≡ n → i + 1 + leading separators (drop (i + 1) t) ≡ n
   leading-turn more d is alike e =
-      let one-left : leading separators (drop i t) ≡ leading separators (drop (i + 1) t) + 1 = ap (leading separators) (left-cons t i more) ∙ one-more separators (getD t i 0) (drop (i + 1) t) (sym is ∙ alike)
+      let one-left : leading separators (drop i t) ≡ leading separators (drop (i + 1) t) + 1 =
+      ap (leading separators) (left-cons t i more) ∙ one-more separators (getD t i 0) (drop (i + 1) t) (sym is ∙ alike)
       in omega (arith, e, one-left)
 
   pub leading-ends : length t ≤ i → i + leading separators (drop i t) ≡ n → i ≡ n
   leading-ends past e =
-      let zero-left : leading separators (drop i t) ≡ 0 = ap (leading separators) (drop-of-length-le t {i = i} past) ∙ no-bytes separators
+      let zero-left : leading separators (drop i t) ≡ 0 =
+      ap (leading separators) (drop-of-length-le t {i = i} past) ∙ no-bytes separators
       in omega (arith, e, zero-left)
 
 -- A word and a name --------------------------------------------------------------------------------------------------------

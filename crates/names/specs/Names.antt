@@ -1,7 +1,7 @@
 -- State, Answers of the manager: the names of the kinds, as they are printed. Each name of the paper's tables stands here once.
 -- Assumes nothing.
 use Prim.Native.Nat.{ℕ}
-use mathlib.Core.List.{List, [], _∷_}
+use mathlib.Core.List.{List}
 use Rattle.kinds.specs.declared.mode.Mode.{Mode}
 use Rattle.kinds.specs.declared.task.Task.{Task}
 use Rattle.kinds.specs.declared.lpa_mode.LpaMode.{LpaMode}

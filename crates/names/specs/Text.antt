@@ -8,7 +8,7 @@ use Prim.Native.String.{[] as empty, _∷_ as _before_}
 use mathlib.Core.Bool.{Bool, true, false, not, _||_}
 use mathlib.Core.List.{List, [], _∷_, _++_}
 use lib.Dec.{eqb, ltb}
-use lib.ListN.{length, take, drop, replicate}
+use lib.ListN.{take, drop, replicate}
 use Rattle.kinds.specs.Choice.{if_then_else_}
 
 -- a quoted text as its bytes

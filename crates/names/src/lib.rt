@@ -27,4 +27,6 @@ pub use line::read_line;
 pub use record_words::Said;
 pub use record_words::record;
 pub use text::WORD;
+pub use text::after_separators;
+pub use text::after_word;
 pub use text::first_word;

@@ -34,8 +34,8 @@ use terminal::Parsed;
 // The hex digits of an event.
 const DIGITS: usize = 2 * EVENT;
 
-// What a line that cannot be read was expected to have: an event's name, or after the name no number, one, two, a report's 1 or 0, or
-// the digits of raw.
+// What a line that cannot be read was expected to have: an event's name; after the name no number, one, two, a report's 1 or 0, or the
+// digits of raw; or fewer bytes, which is an answer of those who keep only so many.
 pub enum Expected {
     Name,
     None,
@@ -43,6 +43,7 @@ pub enum Expected {
     Two,
     Report,
     Raw,
+    Short,
 }
 
 pub enum Content {

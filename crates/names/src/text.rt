@@ -16,14 +16,14 @@ pub fn first_word(text: &[u8]) -> &[u8]
 }
 
 // What stands after the word at the start of a text and the separators that end it.
-pub(crate) fn after_word(text: &[u8]) -> &[u8]
+pub fn after_word(text: &[u8]) -> &[u8]
     ensures { λ r. ⌜ now r ≡ afterWord (now (text .entry)) ⌝ }
 {
     let end = leading(text, false);
     after_separators(&text[end..])
 }
 
-pub(crate) fn after_separators(text: &[u8]) -> &[u8]
+pub fn after_separators(text: &[u8]) -> &[u8]
     ensures { λ r. ⌜ now r ≡ afterSeparators (now (text .entry)) ⌝ }
 {
     let end = leading(text, true);

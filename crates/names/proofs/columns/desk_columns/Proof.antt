@@ -20,4 +20,13 @@ desk-columns-spec =
     (λ c κs. search needs)
     (λ c κs. search needs)
     (λ c. search needs)
-    (λ c. simp (c .before .before .before .before .before .before .before .number .ensures, c .before .before .before .before .before .before .number2 .ensures, c .before .before .before .before .before .number3 .ensures, c .before .before .before .before .number4 .ensures, c .before .before .before .number5 .ensures, c .before .before .number6 .ensures, c .before .number7 .ensures, c .number8 .ensures)))
+    (λ c. simp (
+      c .before .before .before .before .before .before .before .number .ensures,
+      c .before .before .before .before .before .before .number2 .ensures,
+      c .before .before .before .before .before .number3 .ensures,
+      c .before .before .before .before .number4 .ensures,
+      c .before .before .before .number5 .ensures,
+      c .before .before .number6 .ensures,
+      c .before .number7 .ensures,
+      c .number8 .ensures,
+    )))

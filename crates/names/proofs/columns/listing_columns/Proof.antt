@@ -16,4 +16,10 @@ listing-columns-spec =
     (λ c κs. search needs)
     (λ c κs. search needs)
     (λ c. search needs)
-    (λ c. simp (c .before .before .before .before .number .ensures, c .before .before .before .number2 .ensures, c .before .before .number3 .ensures, c .before .number4 .ensures, c .number5 .ensures)))
+    (λ c. simp (
+      c .before .before .before .before .number .ensures,
+      c .before .before .before .number2 .ensures,
+      c .before .before .number3 .ensures,
+      c .before .number4 .ensures,
+      c .number5 .ensures,
+    )))

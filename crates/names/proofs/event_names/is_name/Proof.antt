@@ -14,4 +14,5 @@ is-name-spec =
     (λ c. search needs)
     (λ c κs. search needs)
     (λ c κs. search needs)
-    (λ c. c .same-word .ensures ∙ ap (sameWord _) (c .before .first-word .ensures ∙ ap firstWord (c .before .before .before .event .ensures) ∙ event-word _)))
+    (λ c. c .same-word .ensures
+    ∙ ap (sameWord _) (c .before .first-word .ensures ∙ ap firstWord (c .before .before .before .event .ensures) ∙ event-word _)))

@@ -45,4 +45,17 @@ raw-bytes-spec =
     (λ c. search needs)
     (λ c. search needs)
     (λ c κs. search needs)
-    (λ c. simp (c .before .before .before .before .before .before .before .before .before .before .before .before .before .before .before .before .before .before .before .before .before .before .before .before .before .before .before .before .before .before .before .before .before .pair .ensures, c .before .before .before .before .before .before .before .before .before .before .before .before .before .before .before .before .before .before .before .before .before .before .before .before .before .before .before .before .before .before .pair2 .ensures, c .before .before .before .before .before .before .before .before .before .before .before .before .before .before .before .before .before .before .before .before .before .before .before .before .before .before .before .pair3 .ensures, c .before .before .before .before .before .before .before .before .before .before .before .before .before .before .before .before .before .before .before .before .before .before .before .before .pair4 .ensures, c .before .before .before .before .before .before .before .before .before .before .before .before .before .before .before .before .before .before .before .before .before .pair5 .ensures, c .before .before .before .before .before .before .before .before .before .before .before .before .before .before .before .before .before .before .pair6 .ensures, c .before .before .before .before .before .before .before .before .before .before .before .before .before .before .before .pair7 .ensures, c .before .before .before .before .before .before .before .before .before .before .before .before .pair8 .ensures, c .before .before .before .before .before .before .before .before .before .pair9 .ensures, c .before .before .before .before .before .before .pair10 .ensures, c .before .before .before .pair11 .ensures, c .pair12 .ensures)))
+    (λ c. simp (
+      c .before .before .before .before .before .before .before .before .before .before .before .before .before .before .before .before .before .before .before .before .before .before .before .before .before .before .before .before .before .before .before .before .before .pair .ensures,
+      c .before .before .before .before .before .before .before .before .before .before .before .before .before .before .before .before .before .before .before .before .before .before .before .before .before .before .before .before .before .before .pair2 .ensures,
+      c .before .before .before .before .before .before .before .before .before .before .before .before .before .before .before .before .before .before .before .before .before .before .before .before .before .before .before .pair3 .ensures,
+      c .before .before .before .before .before .before .before .before .before .before .before .before .before .before .before .before .before .before .before .before .before .before .before .before .pair4 .ensures,
+      c .before .before .before .before .before .before .before .before .before .before .before .before .before .before .before .before .before .before .before .before .before .pair5 .ensures,
+      c .before .before .before .before .before .before .before .before .before .before .before .before .before .before .before .before .before .before .pair6 .ensures,
+      c .before .before .before .before .before .before .before .before .before .before .before .before .before .before .before .pair7 .ensures,
+      c .before .before .before .before .before .before .before .before .before .before .before .before .pair8 .ensures,
+      c .before .before .before .before .before .before .before .before .before .pair9 .ensures,
+      c .before .before .before .before .before .before .pair10 .ensures,
+      c .before .before .before .pair11 .ensures,
+      c .pair12 .ensures,
+    )))

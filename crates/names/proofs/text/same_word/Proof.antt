@@ -29,5 +29,12 @@ same-word-spec =
     (λ c. search (needs, same-stops))
     (λ c. search needs)
     (λ c. search needs)
-    (λ c. (search needs, (search needs, same-turn _ _ (c .before .before .before .before .before .loop .i) _ (search needs) (search needs) _ (c .before .before .upper .ensures) (c .if2 .left) (search needs))))
+    (λ c. (
+      search needs,
+      (
+        search needs,
+        same-turn _ _ (c .before .before .before .before .before .loop .i) _ (search needs) (search needs) _
+            (c .before .before .upper .ensures) (c .if2 .left) (search needs),
+      ),
+    ))
     (λ c. search (needs, same-ends)))
