@@ -73,27 +73,17 @@ fn one(heard: Heard, string: &[u8], out: &mut [u8; BUFFER]) -> Heard {
     let reader = read.reader;
     let state = reader.state;
     let at = terminal::number(STDOUT_FILENO, out, heard.at, answer.number() as u64);
-    let at = column(out, at, reader.next);
-    let at = column(out, at, reader.heard);
-    let at = column(out, at, kinds::flag::number(reader::behind(reader)));
-    let at = columns(out, at, &names::desk_columns(state));
+    let at = terminal::column(STDOUT_FILENO, out, at, reader.next);
+    let at = terminal::column(STDOUT_FILENO, out, at, reader.heard);
+    let at = terminal::column(
+        STDOUT_FILENO,
+        out,
+        at,
+        kinds::flag::number(reader::behind(reader)),
+    );
+    let at = terminal::columns(STDOUT_FILENO, out, at, &names::desk_columns(state));
     let at = terminal::byte(STDOUT_FILENO, out, at, b'\n');
     Heard { reader, at }
-}
-
-fn columns(out: &mut [u8; BUFFER], from: usize, numbers: &[u32]) -> usize {
-    let mut at = from;
-    let mut i: usize = 0;
-    while i < numbers.len() {
-        at = column(out, at, numbers[i]);
-        i += 1;
-    }
-    at
-}
-
-fn column(out: &mut [u8; BUFFER], at: usize, n: u32) -> usize {
-    let at = terminal::byte(STDOUT_FILENO, out, at, b' ');
-    terminal::number(STDOUT_FILENO, out, at, n as u64)
 }
 
 // The sentence at the end, for people.

@@ -1,4 +1,4 @@
--- The open block: its records, as many as its head says, stand in its records, can be read back, and lead from the state at its
+-- The open block: its records, as many as its head says, stand in its bytes, can be read back, and lead from the state at its
 -- count-before to the present state. Whole events only: the last record, if there is one, closes the last event.
 -- Assumes nothing.
 use Prim.Native.Nat.{ℕ, _*_}

@@ -74,9 +74,9 @@ fn one(listed: Listed, event: &[u8], out: &mut [u8; BUFFER]) -> Listed {
     let records = added(before, head, stepped.written);
     let answer = stepped.answer;
     let at = event_number(out, listed.at, answer, state.count);
-    let at = column(out, at, answer.number() as u32);
-    let at = columns(out, at, &names::listing_columns(state));
-    let at = column(out, at, records);
+    let at = terminal::column(STDOUT_FILENO, out, at, answer.number() as u32);
+    let at = terminal::columns(STDOUT_FILENO, out, at, &names::listing_columns(state));
+    let at = terminal::column(STDOUT_FILENO, out, at, records);
     let at = terminal::byte(STDOUT_FILENO, out, at, b'\n');
     Listed { manager: after, at }
 }
@@ -98,19 +98,4 @@ fn event_number(out: &mut [u8; BUFFER], at: usize, answer: Answer, count: u32) -
         Answer::Taken(_) => terminal::number(STDOUT_FILENO, out, at, count as u64),
         _ => terminal::byte(STDOUT_FILENO, out, at, b'-'),
     }
-}
-
-fn columns(out: &mut [u8; BUFFER], from: usize, numbers: &[u32]) -> usize {
-    let mut at = from;
-    let mut i: usize = 0;
-    while i < numbers.len() {
-        at = column(out, at, numbers[i]);
-        i += 1;
-    }
-    at
-}
-
-fn column(out: &mut [u8; BUFFER], at: usize, n: u32) -> usize {
-    let at = terminal::byte(STDOUT_FILENO, out, at, b' ');
-    terminal::number(STDOUT_FILENO, out, at, n as u64)
 }

@@ -1,4 +1,4 @@
-// The words of a text: what stands between spaces, tabs, commas and line ends.
+// The words of a line: what stands between spaces, tabs, commas and returns.
 ghost use Prim.Native.Nat.{_≤_};
 ghost use mathlib.Core.Path.{_≡_};
 ghost use lib.ListN.{length};

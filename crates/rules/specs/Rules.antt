@@ -233,6 +233,6 @@ ruleOf s Event.LpaComplete = lpaComplete s
 unfoldable pub unheard : State → Event → Bool
 unheard s e = inMode s Mode.Boot && not (isStarted e)
 
--- what the book says of an event in a state
+-- what the rules say of an event in a state
 unfoldable pub verdictOf : State → Event → Verdict
 verdictOf s e = unless ((Status.NotRun, unheard s e) ∷ []) (decide (ruleOf s e))

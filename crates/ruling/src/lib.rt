@@ -35,7 +35,7 @@ use too_rules::too_abort;
 use too_rules::too_expired;
 use too_rules::too_start;
 
-// What the book says of an event in a state: its status, the state after it, and its records, the closing STATUS last. In a sound
+// What the rules say of an event in a state: its status, the state after it, and its records, the closing STATUS last. In a sound
 // state whose count is below its end they all have room.
 pub fn ruled(state: State, event: Event) -> Ruling
     ensures { λ r. ⌜ r ≡ rulingOf state event ⌝ }
