@@ -1,4 +1,4 @@
--- State, Answers of the manager: the names of the kinds, as they are printed. Each name of the paper's tables stands here once.
+-- State, Answers of the manager: the names of the kinds, as they are printed. Those of events and records stand beside their codes.
 -- Assumes nothing.
 use Prim.Native.Nat.{ℕ}
 use mathlib.Core.List.{List}
