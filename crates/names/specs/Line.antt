@@ -73,13 +73,12 @@ numberedLine code t =
 abbrev pub isHexDigit : ℕ → Bool
 isHexDigit b = not (eqb (digitOf b true) 16)
 
--- the byte of two hex digits
-unfoldable pub pairOf : ℕ → ℕ → ℕ
-pairOf high low = digitOf high true % 16 * 16 + digitOf low true % 16
+-- the byte of two hex digits, by its number
+unfoldable pub rawByte : List ℕ → ℕ → ℕ
+rawByte digits k = digitOf (getD digits (2 * k) 0) true % 16 * 16 + digitOf (getD digits (2 * k + 1) 0) true % 16
 
 unfoldable pub rawBytes : List ℕ → List ℕ
-rawBytes digits =
-    map (λ k. pairOf (getD digits (2 * k) 0) (getD digits (2 * k + 1) 0)) (0 ∷ 1 ∷ 2 ∷ 3 ∷ 4 ∷ 5 ∷ 6 ∷ 7 ∷ 8 ∷ 9 ∷ 10 ∷ 11 ∷ [])
+rawBytes digits = map (rawByte digits) (0 ∷ 1 ∷ 2 ∷ 3 ∷ 4 ∷ 5 ∷ 6 ∷ 7 ∷ 8 ∷ 9 ∷ 10 ∷ 11 ∷ [])
 
 -- the digits after raw: one word, and an event's bytes
 unfoldable pub rawLine : List ℕ → Line

@@ -1,4 +1,5 @@
 // A line of text read as an event: its name and its numbers, or raw and 24 hex digits.
+ghost use Prim.Native.Nat.{_<_};
 ghost use mathlib.Core.Path.{_≡_};
 ghost use lib.ListN.{length};
 ghost use Rattle.kinds.specs.Choice.{every};
@@ -16,7 +17,7 @@ ghost use Rattle.names.specs.Line.{
   rawLine,
   isHexDigit,
   rawBytes,
-  pairOf,
+  rawByte,
 };
 use crate::event_names::UNKNOWN;
 use crate::event_names::event_code;
@@ -228,25 +229,28 @@ fn raw_bytes(digits: &[u8]) -> [u8; EVENT]
     ensures { λ r. ⌜ r ≡ rawBytes (now (digits .entry)) ⌝ }
 {
     [
-        pair(digits[0], digits[1]),
-        pair(digits[2], digits[3]),
-        pair(digits[4], digits[5]),
-        pair(digits[6], digits[7]),
-        pair(digits[8], digits[9]),
-        pair(digits[10], digits[11]),
-        pair(digits[12], digits[13]),
-        pair(digits[14], digits[15]),
-        pair(digits[16], digits[17]),
-        pair(digits[18], digits[19]),
-        pair(digits[20], digits[21]),
-        pair(digits[22], digits[23]),
+        raw_byte(digits, 0),
+        raw_byte(digits, 1),
+        raw_byte(digits, 2),
+        raw_byte(digits, 3),
+        raw_byte(digits, 4),
+        raw_byte(digits, 5),
+        raw_byte(digits, 6),
+        raw_byte(digits, 7),
+        raw_byte(digits, 8),
+        raw_byte(digits, 9),
+        raw_byte(digits, 10),
+        raw_byte(digits, 11),
     ]
 }
 
-fn pair(high: u8, low: u8) -> u8
-    ensures { λ r. ⌜ r ≡ pairOf high low ⌝ }
+// The byte of two digits, by its number.
+fn raw_byte(digits: &[u8], k: usize) -> u8
+    requires { ⌜ length (now digits) ≡ 24 ⌝ }
+    requires { ⌜ k < 12 ⌝ }
+    ensures { λ r. ⌜ r ≡ rawByte (now (digits .entry)) k ⌝ }
 {
-    let first = terminal::digit(high, true);
-    let second = terminal::digit(low, true);
-    (first % 16 * 16 + second % 16) as u8
+    let high = terminal::digit(digits[2 * k], true);
+    let low = terminal::digit(digits[2 * k + 1], true);
+    (high % 16 * 16 + low % 16) as u8
 }

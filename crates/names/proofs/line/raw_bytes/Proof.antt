@@ -9,53 +9,29 @@ unfolding rawBytes
 raw-bytes-spec =
     tie.close
     (tie.spec
-    (λ c. search needs)
-    (λ c. search needs)
     (λ c κs. search needs)
-    (λ c. search needs)
-    (λ c. search needs)
     (λ c κs. search needs)
-    (λ c. search needs)
-    (λ c. search needs)
     (λ c κs. search needs)
-    (λ c. search needs)
-    (λ c. search needs)
     (λ c κs. search needs)
-    (λ c. search needs)
-    (λ c. search needs)
     (λ c κs. search needs)
-    (λ c. search needs)
-    (λ c. search needs)
     (λ c κs. search needs)
-    (λ c. search needs)
-    (λ c. search needs)
     (λ c κs. search needs)
-    (λ c. search needs)
-    (λ c. search needs)
     (λ c κs. search needs)
-    (λ c. search needs)
-    (λ c. search needs)
     (λ c κs. search needs)
-    (λ c. search needs)
-    (λ c. search needs)
     (λ c κs. search needs)
-    (λ c. search needs)
-    (λ c. search needs)
     (λ c κs. search needs)
-    (λ c. search needs)
-    (λ c. search needs)
     (λ c κs. search needs)
     (λ c. simp (
-      c .before .before .before .before .before .before .before .before .before .before .before .before .before .before .before .before .before .before .before .before .before .before .before .before .before .before .before .before .before .before .before .before .before .pair .ensures,
-      c .before .before .before .before .before .before .before .before .before .before .before .before .before .before .before .before .before .before .before .before .before .before .before .before .before .before .before .before .before .before .pair2 .ensures,
-      c .before .before .before .before .before .before .before .before .before .before .before .before .before .before .before .before .before .before .before .before .before .before .before .before .before .before .before .pair3 .ensures,
-      c .before .before .before .before .before .before .before .before .before .before .before .before .before .before .before .before .before .before .before .before .before .before .before .before .pair4 .ensures,
-      c .before .before .before .before .before .before .before .before .before .before .before .before .before .before .before .before .before .before .before .before .before .pair5 .ensures,
-      c .before .before .before .before .before .before .before .before .before .before .before .before .before .before .before .before .before .before .pair6 .ensures,
-      c .before .before .before .before .before .before .before .before .before .before .before .before .before .before .before .pair7 .ensures,
-      c .before .before .before .before .before .before .before .before .before .before .before .before .pair8 .ensures,
-      c .before .before .before .before .before .before .before .before .before .pair9 .ensures,
-      c .before .before .before .before .before .before .pair10 .ensures,
-      c .before .before .before .pair11 .ensures,
-      c .pair12 .ensures,
+      c .before .before .before .before .before .before .before .before .before .before .before .raw-byte .ensures,
+      c .before .before .before .before .before .before .before .before .before .before .raw-byte2 .ensures,
+      c .before .before .before .before .before .before .before .before .before .raw-byte3 .ensures,
+      c .before .before .before .before .before .before .before .before .raw-byte4 .ensures,
+      c .before .before .before .before .before .before .before .raw-byte5 .ensures,
+      c .before .before .before .before .before .before .raw-byte6 .ensures,
+      c .before .before .before .before .before .raw-byte7 .ensures,
+      c .before .before .before .before .raw-byte8 .ensures,
+      c .before .before .before .raw-byte9 .ensures,
+      c .before .before .raw-byte10 .ensures,
+      c .before .raw-byte11 .ensures,
+      c .raw-byte12 .ensures,
     )))
