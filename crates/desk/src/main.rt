@@ -73,14 +73,8 @@ fn one(heard: Heard, string: &[u8], out: &mut [u8; BUFFER]) -> Heard {
     let reader = read.reader;
     let state = reader.state;
     let at = terminal::number(STDOUT_FILENO, out, heard.at, answer.number() as u64);
-    let at = terminal::column(STDOUT_FILENO, out, at, reader.next);
-    let at = terminal::column(STDOUT_FILENO, out, at, reader.heard);
-    let at = terminal::column(
-        STDOUT_FILENO,
-        out,
-        at,
-        kinds::flag::number(reader::behind(reader)),
-    );
+    let behind = kinds::flag::number(reader::behind(reader));
+    let at = terminal::columns(STDOUT_FILENO, out, at, &[reader.next, reader.heard, behind]);
     let at = terminal::columns(STDOUT_FILENO, out, at, &names::desk_columns(state));
     let at = terminal::byte(STDOUT_FILENO, out, at, b'\n');
     Heard { reader, at }
@@ -95,7 +89,7 @@ fn sum_up(reader: Reader) {
     let name = names::mode(mode);
     let at = say(&mut line, at, names::first_word(&name));
     let at = say_event(&mut line, at, state.count);
-    let at = say_behind(&mut line, at, reader);
+    let at = say_behind(&mut line, at, reader.next, reader.heard);
     terminal::flush(STDERR_FILENO, &line, at);
 }
 
@@ -111,11 +105,11 @@ fn say_event(line: &mut [u8; BUFFER], at: usize, count: u32) -> usize {
     terminal::number(STDERR_FILENO, line, at, count as u64)
 }
 
-fn say_behind(line: &mut [u8; BUFFER], at: usize, reader: Reader) -> usize {
-    if reader.heard <= reader.next {
+fn say_behind(line: &mut [u8; BUFFER], at: usize, next: u32, heard: u32) -> usize {
+    if heard <= next {
         return say(line, at, b", and the desk is not behind.\n");
     }
-    let blocks = reader.heard - reader.next;
+    let blocks = heard - next;
     let at = say(line, at, b", and the desk is behind by ");
     let at = terminal::number(STDERR_FILENO, line, at, blocks as u64);
     if blocks == 1 {
