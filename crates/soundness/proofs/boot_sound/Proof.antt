@@ -7,7 +7,14 @@ use Rattle.soundness.proofs.boot_sound.Tie as tie
 
 pub boot-sound-spec : {M : Type 1} → statement M
 unfolding bootSound
-boot-sound-spec = tie.close (tie.spec (λ c κs. search needs) (λ c κs. search needs) (λ c κs. search needs) (λ c κs. search needs) (λ c κs. search needs)
+boot-sound-spec =
+    tie.close
+    (tie.spec
+    (λ c κs. search needs)
+    (λ c κs. search needs)
+    (λ c κs. search needs)
+    (λ c κs. search needs)
+    (λ c κs. search needs)
     (λ c. simp (
       c .before .before .before .before .before .before .before .before .is .ensures,
       c .before .before .before .before .before .before .before .is2 .ensures,

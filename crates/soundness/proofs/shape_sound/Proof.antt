@@ -7,7 +7,14 @@ use Rattle.soundness.proofs.shape_sound.Tie as tie
 
 pub shape-sound-spec : {M : Type 1} → statement M
 unfolding shapeSound
-shape-sound-spec = tie.close (tie.spec (λ c κs. search needs) (λ c κs. search needs) (λ c κs. search needs) (λ c κs. search needs) (λ c. simp (
+shape-sound-spec =
+    tie.close
+    (tie.spec
+    (λ c κs. search needs)
+    (λ c κs. search needs)
+    (λ c κs. search needs)
+    (λ c κs. search needs)
+    (λ c. simp (
       c .before .before .before .calibration-sound .ensures,
       c .before .before .physics-sound .ensures,
       c .before .too-sound .ensures,
