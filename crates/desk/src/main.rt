@@ -73,8 +73,14 @@ fn one(heard: Heard, string: &[u8], out: &mut [u8; BUFFER]) -> Heard {
     let reader = read.reader;
     let state = reader.state;
     let at = terminal::number(STDOUT_FILENO, out, heard.at, answer.number() as u64);
-    let behind = kinds::flag::number(reader::behind(reader));
-    let at = terminal::columns(STDOUT_FILENO, out, at, &[reader.next, reader.heard, behind]);
+    let at = terminal::column(STDOUT_FILENO, out, at, reader.next);
+    let at = terminal::column(STDOUT_FILENO, out, at, reader.heard);
+    let at = terminal::column(
+        STDOUT_FILENO,
+        out,
+        at,
+        kinds::flag::number(reader::behind(reader)),
+    );
     let at = terminal::columns(STDOUT_FILENO, out, at, &names::desk_columns(state));
     let at = terminal::byte(STDOUT_FILENO, out, at, b'\n');
     Heard { reader, at }
