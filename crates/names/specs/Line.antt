@@ -73,7 +73,7 @@ numberedLine code t =
 abbrev pub isHexDigit : ℕ → Bool
 isHexDigit b = not (eqb (digitOf b true) 16)
 
--- the byte of two hex digits, by its number
+-- byte k of the event: its two hex digits stand at 2k and 2k + 1
 unfoldable pub rawByte : List ℕ → ℕ → ℕ
 rawByte digits k = digitOf (getD digits (2 * k) 0) true % 16 * 16 + digitOf (getD digits (2 * k + 1) 0) true % 16
 

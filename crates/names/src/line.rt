@@ -244,7 +244,7 @@ fn raw_bytes(digits: &[u8]) -> [u8; EVENT]
     ]
 }
 
-// The byte of two digits, by its number.
+// Byte k of the event: its digits stand at 2k and 2k + 1.
 fn raw_byte(digits: &[u8], k: usize) -> u8
     requires { ⌜ length (now digits) ≡ 24 ⌝ }
     requires { ⌜ k < 12 ⌝ }

@@ -7,4 +7,9 @@ use Rattle.soundness.proofs.sound.Tie as tie
 
 pub sound-spec : {M : Type 1} → statement M
 unfolding sound
-sound-spec = tie.close (tie.spec (λ c κs. search needs) (λ c κs. search needs) (λ c. simp (c .before .shape-sound .ensures, c .numbers-sound .ensures)))
+sound-spec =
+    tie.close
+    (tie.spec
+    (λ c κs. search needs)
+    (λ c κs. search needs)
+    (λ c. simp (c .before .shape-sound .ensures, c .numbers-sound .ensures)))
