@@ -1,7 +1,6 @@
 pub mod Text
 pub mod Names
 pub mod EventNames
-pub mod RecordWords
 pub mod Columns
 pub mod Line
 pub mod TableLaws

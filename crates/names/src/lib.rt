@@ -1,10 +1,9 @@
-// The words of the paper: the names of modes, states, statuses, events and records, the columns of a state, and a line of text read as
-// an event. A name is handed back filled up with spaces: `first_word` is the name alone.
+// The words of the paper: the names of modes, states, statuses and events, the columns of a state, and a line of text read as an event.
+// A name is handed back filled up with spaces: `first_word` is the name alone. Records are in `record_words`, which needs these.
 mod columns;
 mod event_names;
 mod kind_names;
 mod line;
-mod record_words;
 mod text;
 
 pub use columns::DESK_HEAD;
@@ -24,8 +23,6 @@ pub use line::Content;
 pub use line::Expected;
 pub use line::Line;
 pub use line::read_line;
-pub use record_words::Said;
-pub use record_words::record;
 pub use text::WORD;
 pub use text::after_separators;
 pub use text::after_word;
