@@ -1,4 +1,4 @@
--- State, Answers of the manager: the names of the kinds, as they are printed. Those of events and records stand beside their codes.
+-- State, Answers of the manager: the names of the kinds, as they are printed. Those of the events are in EventNames, those of the records in `record_words`.
 -- Assumes nothing.
 use Prim.Native.Nat.{ℕ}
 use mathlib.Core.List.{List}
