@@ -12,7 +12,7 @@ use Rattle.state.specs.Effect.{effect}
 use Rattle.events.specs.Event.{eventOf, partsOfEvent}
 use Rattle.records.specs.Record.{partsOfRecord, recordOf}
 use Rattle.state.specs.State.{rebooted}
-use Rattle.soundness.specs.Sound.{sound, shapeSound, calibrationSound, physicsSound, tooSound, bootSound}
+use Rattle.soundness.specs.Sound.{sound, shapeSound, calibrationSound, physicsSound, tooSound, bootSound, tasksSound}
 use Rattle.kinds.specs.Kinds.{modeNumber}
 use Rattle.layout.specs.Bytes.{u16At, u32At, two, four}
 use Rattle.blocks.specs.Block.{BLOCK, headOf, intact, headBytes, checkedBytes, blockBytes}
@@ -64,7 +64,7 @@ display g (b ∷ bs) = shown (readOf g b) (λ g′. display g′ bs)
 
 -- what is to be computed through: all of the manager, the layouts, the rules that these events meet, and the reader
 computed : ℕ
-unfolding checkOf taps feedBit feedBits feed rebooted sound shapeSound calibrationSound physicsSound tooSound bootSound effect eventOf partsOfEvent partsOfRecord recordOf u16At u32At two four headOf intact headBytes checkedBytes blockBytes eventPartsAt readEvent recordPartsAt readRecord recordPartsBytes recordBytes allZero zerosBetween blank emitted emits ruleOf unheard verdictOf rulingOf logSound bothSound stepOf flushOf wentClosed wentBy reads contentOf readerSound readOf runOf
+unfolding checkOf taps feedBit feedBits feed rebooted sound shapeSound calibrationSound physicsSound tooSound bootSound tasksSound effect eventOf partsOfEvent partsOfRecord recordOf u16At u32At two four headOf intact headBytes checkedBytes blockBytes eventPartsAt readEvent recordPartsAt readRecord recordPartsBytes recordBytes allZero zerosBetween blank emitted emits ruleOf unheard verdictOf rulingOf logSound bothSound stepOf flushOf wentClosed wentBy reads contentOf readerSound readOf runOf
 computed = 0
 
 displayed : display (freshReader 7) (down (runOf 7 asked .blocks) (runOf 8 (take 2 asked) .blocks))

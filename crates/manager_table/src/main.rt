@@ -24,6 +24,7 @@ fn main() {
     events_refused();
     logs_refused();
     flushes_refused();
+    a_calibration_still_stopping();
 }
 
 // Blocks by hand -------------------------------------------------------------------------------------------------------------
@@ -206,6 +207,19 @@ fn flushes_refused() {
         b"flush, 511 lent, 2 records",
         after(manager::fresh(7), Event::Started),
     );
+}
+
+// Physics is not started beside a calibration that stops; both tasks busy is a state that cannot have come about.
+fn a_calibration_still_stopping() {
+    let lci = State::rebooted(1)
+        .with_mode(Mode::Quiescent)
+        .with_lci(Task::Stopping);
+    let one = made(lci, 0, 0, 1, [0; 496]);
+    let both = made(lci.with_lpa(Task::Stopping), 0, 0, 1, [0; 496]);
+    let start = layout::event_bytes(Event::LpaStart { run: 8 });
+    step_whole(b"LCI STOPPING, LPASTART", one, &start);
+    step_whole(b"LCI and LPA STOPPING, LPASTART", both, &start);
+    flush(b"LCI and LPA STOPPING, flush", both, [0; 512]);
 }
 
 // Operations -----------------------------------------------------------------------------------------------------------------

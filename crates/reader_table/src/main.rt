@@ -1,6 +1,7 @@
 // Runs the ground reader on blocks that are written out byte for byte, each with its check worked out bit by bit: every row of its
 // table, and every way in which a block's content can be wrong. A line for each string: the answer's number, and the reader after it.
 use kinds::Mode;
+use kinds::Task;
 use libc::STDOUT_FILENO;
 use reader::Read;
 use reader::Reader;
@@ -16,6 +17,7 @@ fn main() {
     records_that_are_wrong();
     events_that_are_wrong();
     the_end_of_the_count();
+    both_tasks_busy();
 }
 
 // Records, as they stand in a block.
@@ -37,6 +39,8 @@ const LPA_COMP: [u8; 8] = [0, 17, 0, 0, 0, 0, 0, 0];
 
 const LPA_IDLE: [u8; 8] = [0, 3, 0, 0, 0, 0, 0, 0];
 
+const LCI_IDLE: [u8; 8] = [0, 2, 0, 0, 0, 0, 0, 0];
+
 const STATUS_1: [u8; 8] = [0, 29, 0, 0, 0, 0, 0, 1];
 
 const STATUS_2: [u8; 8] = [0, 29, 0, 0, 0, 0, 0, 2];
@@ -44,6 +48,8 @@ const STATUS_2: [u8; 8] = [0, 29, 0, 0, 0, 0, 0, 2];
 const STATUS_3: [u8; 8] = [0, 29, 0, 1, 0, 0, 0, 3];
 
 const STATUS_4: [u8; 8] = [0, 29, 0, 0, 0, 0, 0, 4];
+
+const STATUS_6: [u8; 8] = [0, 29, 0, 1, 0, 0, 0, 6];
 
 // Blocks ---------------------------------------------------------------------------------------------------------------------
 
@@ -280,6 +286,39 @@ fn late_reader(count: u32) -> Reader {
         state,
         next: 0,
         heard: 0,
+    }
+}
+
+// A calibration that a hold stopped and that has not ended. Physics beside it, as a log of the base may have it, is wrong; only the
+// state after the STATUS is asked, not those between two records.
+fn both_tasks_busy() {
+    let b = put(put(head(1, 4, 5), 0, LPA_START_8), 1, LPA_RUNNING);
+    let b = sealed(put(put(b, 2, PHYSICS), 3, STATUS_6));
+    read(b"physics beside it", stopping_reader(Task::Idle), b);
+    let b = put(put(head(1, 5, 5), 0, LPA_START_8), 1, LPA_RUNNING);
+    let b = sealed(put(put(put(b, 2, LCI_IDLE), 3, PHYSICS), 4, STATUS_6));
+    read(
+        b"physics beside it between two records",
+        stopping_reader(Task::Idle),
+        b,
+    );
+    read(
+        b"a reader with both tasks STOPPING",
+        stopping_reader(Task::Stopping),
+        b,
+    );
+}
+
+fn stopping_reader(lpa: Task) -> Reader {
+    let state = State::rebooted(5)
+        .with_mode(Mode::Quiescent)
+        .with_lci(Task::Stopping)
+        .with_lpa(lpa);
+    Reader {
+        number: 7,
+        state,
+        next: 1,
+        heard: 1,
     }
 }
 

@@ -10,7 +10,7 @@ use lib.Dec.{ltb}
 use Rattle.kinds.specs.Choice.{when, every, some}
 use Rattle.kinds.specs.Kinds.{modes, tasks, lpaModes, tooStates, flags, flagNumber}
 use Rattle.state.specs.State.{rebooted}
-use Rattle.soundness.specs.Sound.{timerOn, calibrationSound, physicsSound, tooSound, bootSound, shapeSound}
+use Rattle.soundness.specs.Sound.{timerOn, calibrationSound, physicsSound, tooSound, bootSound, tasksSound, shapeSound}
 use Rattle.state.specs.State.{withMode, withLci, withLpa, withLpaMode, withSaa, withToo, withArmed, withCount}
 use Rattle.state.specs.Effect.{effect, effects}
 use Rattle.state.specs.declared.State.{State}
@@ -49,7 +49,7 @@ module _ (test : State → Bool) where
   forSaa s = forField withSaa flags unbound forLpaMode s
 
   abbrev pub forLpa : State → Bool
-  forLpa s = forField withLpa tasks unbound forSaa s
+  forLpa s = forField withLpa tasks tasksSound forSaa s
 
   abbrev pub forLci : State → Bool
   forLci s = forField withLci tasks calibrationSound forLpa s
@@ -64,7 +64,7 @@ module _ (test : State → Bool) where
   forMode s = forField withMode modes unbound forToo s
 
   unfoldable pub everyOutline : State → Bool
-  unfolding calibrationSound physicsSound tooSound
+  unfolding calibrationSound physicsSound tooSound tasksSound
   everyOutline s = forMode (withCount s 1)
 
 -- there is room for the records and a STATUS, and the shape after them is sound
@@ -77,5 +77,5 @@ abbrev pub passesBy : State → Event → State → Bool
 passesBy t e s = unheard s e || (keeps t (ruleOf s e .records) || some met (ruleOf s e .refusals))
 
 unfoldable pub passes : State → Event → State → Bool
-unfolding shapeSound calibrationSound physicsSound tooSound bootSound effect rebooted ruleOf unheard partsOfEvent
+unfolding shapeSound calibrationSound physicsSound tooSound bootSound tasksSound effect rebooted ruleOf unheard partsOfEvent
 passes s e t = passesBy t e (withNumbers t s)

@@ -2,7 +2,7 @@
 -- and to its outline the same, as far as the outline goes, and a timer that they start names the event that they belong to.
 -- Assumes nothing.
 use Prim.Native.Nat.{ℕ, _+_, _<_, _≤_}
-use mathlib.Core.Bool.{Bool, true, false, _&&_}
+use mathlib.Core.Bool.{Bool, true, false}
 use mathlib.Core.List.{List, [], _∷_}
 use mathlib.Core.Path.{_≡_, refl, sym, ap, subst, _∙_}
 use native.Mathlib.Omega.{arith}
@@ -12,7 +12,8 @@ use Rattle.kinds.specs.ChoiceLaws.{when-true, and-left, and-right}
 use Rattle.kinds.specs.Kinds.{LAST-NUMBER, modes, tasks, lpaModes, tooStates, flags, flagNumber}
 use Rattle.kinds.specs.KindsLaws.{mode-every, task-every, lpa-mode-every, too-state-every, flag-every}
 use Rattle.state.specs.State.{rebooted}
-use Rattle.soundness.specs.Sound.{timerOn, calibrationSound, physicsSound, tooSound, bootSound, shapeSound}
+use Rattle.soundness.specs.Sound.{timerOn, calibrationSound, physicsSound, tooSound, bootSound, tasksSound, shapeSound}
+use Rattle.soundness.specs.SoundLaws.{shape-clauses}
 use Rattle.state.specs.State.{withMode, withLci, withLpa, withLpaMode, withSaa, withLciAwaited, withLpaAwaited, withToo, withArmed, withCount}
 use Rattle.state.specs.Effect.{oneMore, effect, effects}
 use Rattle.state.specs.EffectLaws.{effect-count, one-more-below}
@@ -33,7 +34,7 @@ settled : (s : State) → outline (outline s) ≡ outline s
 settled s = ap (withTimer (withCount s 1)) (timer-told (s .armed))
 
 pub outline-shape : (s : State) → shapeSound (outline s) ≡ shapeSound s
-unfolding shapeSound calibrationSound physicsSound tooSound bootSound
+unfolding shapeSound calibrationSound physicsSound tooSound bootSound tasksSound
 outline-shape s = rw (timer-told (s .armed))
 
 -- Tests of every outline -----------------------------------------------------------------------------------------------------
@@ -44,27 +45,17 @@ for-field-passes : {A : Type 0} (put : State → A → State) (values : List A) 
 for-field-passes put values clause test all s x holds passed =
     when-true (clause (put s x)) (λ _. test (put s x)) (all (λ y. when (clause (put s y)) (λ _. test (put s y))) passed x) holds
 
-module _ (test : State → Bool) (s : State) (shape : shapeSound (outline s) ≡ true) where
-  clauses : (calibrationSound (outline s) ≡ true) × (physicsSound (outline s) ≡ true) × (tooSound (outline s) ≡ true)
-  unfolding shapeSound
-  clauses =
-      let three = and-left (calibrationSound (outline s) && physicsSound (outline s) && tooSound (outline s)) (bootSound (outline s)) shape in
-      let two = and-left (calibrationSound (outline s) && physicsSound (outline s)) (tooSound (outline s)) three in (
-        and-left (calibrationSound (outline s)) (physicsSound (outline s)) two,
-        and-right (calibrationSound (outline s)) (physicsSound (outline s)) two,
-        and-right (calibrationSound (outline s) && physicsSound (outline s)) (tooSound (outline s)) three,
-      )
-
-  pub outline-every : everyOutline test s ≡ true → test (outline s) ≡ true
-  unfolding everyOutline
-  outline-every passed =
-      for-field-passes withLpaMode lpaModes physicsSound test lpa-mode-every (outline s) (s .«lpa_mode») (clauses .1)
-      (for-field-passes withSaa flags unbound (forLpaMode test) flag-every (outline s) (s .saa) refl
-      (for-field-passes withLpa tasks unbound (forSaa test) task-every (outline s) (s .lpa) refl
-      (for-field-passes withLci tasks calibrationSound (forLpa test) task-every (outline s) (s .lci) (clauses .0)
-      (for-field-passes withTimer flags tooSound (forLci test) flag-every (withCount s 1) (timerOn (s .armed)) (clauses .2)
-      (for-field-passes withToo tooStates unbound (forTimer test) too-state-every (withCount s 1) (s .too) refl
-      (for-field-passes withMode modes unbound (forToo test) mode-every (withCount s 1) (s .mode) refl passed))))))
+pub outline-every : (test : State → Bool) (s : State) → shapeSound (outline s) ≡ true → everyOutline test s ≡ true → test (outline s) ≡ true
+unfolding everyOutline
+outline-every test s shape passed =
+    let clauses = shape-clauses (outline s) shape in
+    for-field-passes withLpaMode lpaModes physicsSound test lpa-mode-every (outline s) (s .«lpa_mode») (clauses .1)
+    (for-field-passes withSaa flags unbound (forLpaMode test) flag-every (outline s) (s .saa) refl
+    (for-field-passes withLpa tasks tasksSound (forSaa test) task-every (outline s) (s .lpa) (clauses .4)
+    (for-field-passes withLci tasks calibrationSound (forLpa test) task-every (outline s) (s .lci) (clauses .0)
+    (for-field-passes withTimer flags tooSound (forLci test) flag-every (withCount s 1) (timerOn (s .armed)) (clauses .2)
+    (for-field-passes withToo tooStates unbound (forTimer test) too-state-every (withCount s 1) (s .too) refl
+    (for-field-passes withMode modes unbound (forToo test) mode-every (withCount s 1) (s .mode) refl passed))))))
 
 -- Records in a state and in its outline --------------------------------------------------------------------------------------
 

@@ -127,7 +127,7 @@ lpaStart s run =
     (only (inMode s Mode.Quiescent || inMode s Mode.Too)
     ∷ (Status.Saa, s .saa)
     ∷ (Status.OthRun, lpaIs s Task.Running)
-    ∷ (Status.OthStop, lpaIs s Task.Stopping)
+    ∷ (Status.OthStop, lpaIs s Task.Stopping || not (lciIs s Task.Idle))
     ∷ [])
     Status.PktSent
     (Record.LpaStart (if inMode s Mode.Quiescent then LpaMode.Normal else LpaMode.Too) run ∷ Record.LpaState Task.Running
@@ -165,9 +165,9 @@ lpaComplete s =
     (Record.LpaComp ∷ Record.LpaState Task.Idle
     ∷ (if inMode s Mode.Physics then Record.OpMode Mode.Quiescent ∷ [] else []))
 
--- a target of opportunity starts physics where it is idle outside the SAA
+-- a target of opportunity starts physics where both tasks are idle outside the SAA
 abbrev pub startsPhysics : State → Bool
-startsPhysics s = lpaIs s Task.Idle && not (s .saa)
+startsPhysics s = lpaIs s Task.Idle && lciIs s Task.Idle && not (s .saa)
 
 -- it takes over a run, starts one, or waits
 abbrev pub tooStarting : State → ℕ → List Record

@@ -50,6 +50,10 @@ bootSound s =
     && tooStateIs (s .too) TooState.None
     && not (timerOn (s .armed)))
 
+-- (e) one of the tasks is idle: the front ends are never asked for by both
+unfoldable pub tasksSound : State → Bool
+tasksSound s = taskIs (s .lci) Task.Idle || taskIs (s .lpa) Task.Idle
+
 -- (c), last part: the timer names an event that was
 abbrev pub numbersSound : State → Bool
 numbersSound s = leb (s .armed) (s .count)
@@ -57,7 +61,7 @@ numbersSound s = leb (s .armed) (s .count)
 -- Soundness is in two parts, so that what the rules keep of it can be computed. The clauses of the shape look at a timer only through
 -- `timerOn`: there are few shapes, and all of them are tried. What compares two numbers stands apart, and is proved.
 unfoldable pub shapeSound : State → Bool
-shapeSound s = calibrationSound s && physicsSound s && tooSound s && bootSound s
+shapeSound s = calibrationSound s && physicsSound s && tooSound s && bootSound s && tasksSound s
 
 unfoldable pub sound : State → Bool
 sound s = shapeSound s && numbersSound s

@@ -1,6 +1,6 @@
-// Which states are sound (State): the clauses (a) to (d), as they stand in the book, those of the shape first and then the numbers.
+// Which states are sound (State): the clauses (a) to (e), as they stand in the book, those of the shape first and then the numbers.
 ghost use mathlib.Core.Path.{_≡_};
-ghost use Rattle.soundness.specs.Sound.{sound, shapeSound, numbersSound, calibrationSound, physicsSound, tooSound, bootSound};
+ghost use Rattle.soundness.specs.Sound.{sound, shapeSound, numbersSound, calibrationSound, physicsSound, tooSound, bootSound, tasksSound};
 use kinds::LpaMode;
 use kinds::Mode;
 use kinds::Task;
@@ -16,7 +16,12 @@ pub fn sound(s: State) -> bool
 fn shape_sound(s: State) -> bool
     ensures { λ r. ⌜ r ≡ shapeSound s ⌝ }
 {
-    calibration_sound(s) & physics_sound(s) & too_sound(s) & boot_sound(s)
+    let calibration = calibration_sound(s);
+    let physics = physics_sound(s);
+    let too = too_sound(s);
+    let boot = boot_sound(s);
+    let tasks = tasks_sound(s);
+    calibration & physics & too & boot & tasks
 }
 
 fn numbers_sound(s: State) -> bool
@@ -72,4 +77,12 @@ fn boot_sound(s: State) -> bool
     let idle = lci.is(Task::Idle) & lpa.is(Task::Idle) & lpa_mode.is(LpaMode::Normal);
     let quiet = idle & !s.saa & !s.lci_awaited & !s.lpa_awaited;
     !booting | quiet & too.is(TooState::None) & !(s.armed != 0)
+}
+
+fn tasks_sound(s: State) -> bool
+    ensures { λ r. ⌜ r ≡ tasksSound s ⌝ }
+{
+    let lci = s.lci;
+    let lpa = s.lpa;
+    lci.is(Task::Idle) | lpa.is(Task::Idle)
 }

@@ -15,6 +15,7 @@ use kinds::Task;
 use kinds::TooState;
 use records::Record;
 use rules::conditions::in_mode;
+use rules::conditions::lci_is;
 use rules::conditions::lpa_is;
 use rules::conditions::too_is;
 use state::State;
@@ -33,7 +34,7 @@ pub fn lpa_start(s: State, run: u32) -> Ruling
     if lpa_is(s, Task::Running) {
         return refused(s, Status::OthRun);
     }
-    if lpa_is(s, Task::Stopping) {
+    if lpa_is(s, Task::Stopping) | !lci_is(s, Task::Idle) {
         return refused(s, Status::OthStop);
     }
     let mode = mode_to_start(quiescent);

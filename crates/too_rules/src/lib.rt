@@ -17,6 +17,7 @@ use kinds::Task;
 use kinds::TooState;
 use records::Record;
 use rules::conditions::in_mode;
+use rules::conditions::lci_is;
 use rules::conditions::lpa_is;
 use state::State;
 
@@ -43,7 +44,7 @@ pub fn too_start(s: State, run: u32, dwell: u32) -> Ruling
 fn starts_physics(s: State) -> bool
     ensures { λ r. ⌜ r ≡ startsPhysics s ⌝ }
 {
-    lpa_is(s, Task::Idle) & !s.saa
+    lpa_is(s, Task::Idle) & lci_is(s, Task::Idle) & !s.saa
 }
 
 fn sent(started: bool) -> Status

@@ -1,4 +1,4 @@
--- The shape is sound in four clauses.
+-- The shape is sound in five clauses.
 -- Assumes nothing.
 use borrow.Author.Needs.{needs}
 use Rattle.soundness.specs.Sound.{shapeSound}
@@ -14,9 +14,11 @@ shape-sound-spec =
     (λ c κs. search needs)
     (λ c κs. search needs)
     (λ c κs. search needs)
+    (λ c κs. search needs)
     (λ c. simp (
-      c .before .before .before .calibration-sound .ensures,
-      c .before .before .physics-sound .ensures,
-      c .before .too-sound .ensures,
-      c .boot-sound .ensures,
+      c .before .before .before .before .calibration-sound .ensures,
+      c .before .before .before .physics-sound .ensures,
+      c .before .before .too-sound .ensures,
+      c .before .boot-sound .ensures,
+      c .tasks-sound .ensures,
     )))

@@ -1,4 +1,4 @@
--- `starts_physics`: idle, and outside the SAA.
+-- `starts_physics`: both tasks idle, and outside the SAA.
 -- Assumes nothing.
 use borrow.Author.Needs.{needs}
 use Rattle.too_rules.proofs.starts_physics.Statement.{statement}
@@ -9,4 +9,5 @@ starts-physics-spec =
     tie.close
     (tie.spec
     (λ c κs. search needs)
-    (λ c. simp (← c .before .lpa-is .ensures)))
+    (λ c κs. search needs)
+    (λ c. simp (← c .before .before .lpa-is .ensures, ← c .before .lci-is .ensures)))
