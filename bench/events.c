@@ -1,5 +1,6 @@
-// N events for the measurements, the same ones for the same N: `events N` writes N strings of 12 bytes to standard output. A walk
-// that knows the state, by the rules in C, so that most commands come where they are taken and all modes are gone through often.
+// N events for the measurements, the same ones for the same N and the same rules: `events N` writes N strings of 12 bytes to standard
+// output. A walk that knows the state, by the rules in C, so that most commands come where they are taken and all modes are gone
+// through often.
 #include "rules.h"
 
 // A code from NO_EVENT on is none, and stays none when events are added.

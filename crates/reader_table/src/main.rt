@@ -289,16 +289,20 @@ fn late_reader(count: u32) -> Reader {
     }
 }
 
-// A calibration that a hold stopped and that has not ended. Physics beside it, as a log of the base may have it, is wrong; only the
-// state after the STATUS is asked, not those between two records.
+// A calibration that a hold stopped and that has not ended. A log of the base may have physics started then, which is wrong here. Only
+// the state after the STATUS is looked at, not those between two records.
 fn both_tasks_busy() {
     let b = put(put(head(1, 4, 5), 0, LPA_START_8), 1, LPA_RUNNING);
     let b = sealed(put(put(b, 2, PHYSICS), 3, STATUS_6));
-    read(b"physics beside it", stopping_reader(Task::Idle), b);
+    read(
+        b"physics started while LCI is STOPPING",
+        stopping_reader(Task::Idle),
+        b,
+    );
     let b = put(put(head(1, 5, 5), 0, LPA_START_8), 1, LPA_RUNNING);
     let b = sealed(put(put(put(b, 2, LCI_IDLE), 3, PHYSICS), 4, STATUS_6));
     read(
-        b"physics beside it between two records",
+        b"the same, with LCI IDLE before the STATUS",
         stopping_reader(Task::Idle),
         b,
     );

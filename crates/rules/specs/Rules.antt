@@ -72,7 +72,7 @@ saaExit s =
     rule [] Status.Success
     (Record.SaaChange false ∷ (if not (inMode s Mode.Terminal) then Record.NonSaaCfg ∷ [] else []))
 
--- the shedding itself, once both tasks are told to stop
+-- the shedding itself, once a task that runs was sent its stop
 abbrev pub shedding : List Record
 shedding =
     Record.LtcStop ∷ Record.Wait WAIT-LONG ∷ Record.ShedBegin ∷ Record.ShedEnd ∷ Record.SiuReboot ∷ Record.Wait WAIT-SHORT ∷ []

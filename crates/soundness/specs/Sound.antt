@@ -50,7 +50,7 @@ bootSound s =
     && tooStateIs (s .too) TooState.None
     && not (timerOn (s .armed)))
 
--- (e) one of the tasks is idle: the front ends are never asked for by both
+-- (e) calibration or physics is idle: only one of them may use the front ends
 unfoldable pub tasksSound : State → Bool
 tasksSound s = taskIs (s .lci) Task.Idle || taskIs (s .lpa) Task.Idle
 

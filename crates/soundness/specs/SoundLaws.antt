@@ -1,4 +1,5 @@
--- State, laws: the first state of all is sound and has counted nothing; a sound state is sound in its shape and in its numbers.
+-- State, laws: the first state of all is sound; a sound state is sound in its shape, clause by clause, and in its numbers; the shape
+-- does not look at the count.
 -- Assumes nothing.
 use Prim.Native.Nat.{ℕ, _≤_}
 use mathlib.Core.Bool.{Bool, true, _&&_}
