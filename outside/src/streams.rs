@@ -180,11 +180,11 @@ impl Planner<'_> {
 
     fn event(&mut self, style: Style) -> Event {
         if style == Style::Planned {
+            if self.way.is_empty() && self.random.one_in(4) {
+                self.plan();
+            }
             if let Some(edge) = self.way.pop() {
                 return edges(&self.state)[edge];
-            }
-            if self.random.one_in(4) {
-                self.plan();
             }
             let all = edges(&self.state);
             return self.random.pick(&all);
