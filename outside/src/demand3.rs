@@ -27,8 +27,9 @@ pub struct Run {
 const LENT_BEFORE: u8 = 0xA5;
 
 /// Runs a manager and holds each answer to demands 1 and 2 as far as they show here: lent bytes,
-/// unlogged refusals, and that the records read back are those written. An error names the place of the
-/// call: the calls up to it are the shortest prefix that fails, since every shorter one went well.
+/// unlogged refusals, that one task at most is busy, and that the records read back are those written. An
+/// error names the place of the call: the calls up to it are the shortest prefix that fails, since every
+/// shorter one went well.
 pub fn run(number: u32, ops: &[Op]) -> Result<Run, (usize, String)> {
     let mut m = log::fresh(number);
     let mut run = Run {
@@ -72,6 +73,10 @@ pub fn run(number: u32, ops: &[Op]) -> Result<Run, (usize, String)> {
             return fail("an unlogged refusal changed the manager");
         }
         m = stepped.manager;
+        // Q-1 in its own words, beside the soundness that step and reader ask for
+        if m.state.lci != task::IDLE && m.state.lpa != task::IDLE {
+            return fail("calibration and physics are busy at once");
+        }
         if matches!(op, Op::Event(_)) && stepped.answer <= answer::STALE {
             run.history.push(m.state);
         }

@@ -12,7 +12,7 @@ use outside::demand3::{self, hex, Op};
 use outside::forge::Forger;
 use outside::kinds::*;
 use outside::programs::{Output, Programs, PATIENCE, PATIENCE_SHORT};
-use outside::shapes::{edges, shape_of, Graph};
+use outside::shapes::{self, edges, shape_of, ByMode, Graph};
 use outside::shrink::{self, Fault, Kind};
 use outside::streams::{self, Random, Sender, Style, STYLES};
 use outside::walk::{self, Combination};
@@ -136,14 +136,16 @@ fn drive(programs: Option<Programs>) -> Result<(), String> {
     let streams: usize = number_from_environment("STREAMS").unwrap_or(STREAMS as u64) as usize;
     println!("seed {seed:#x} (SEED={seed:#x} gives this run again), {streams} long streams");
     let walked = walk::walk().map_err(|what| format!("walk over the sound shapes: {what}"))?;
-    if walked.shapes != 441 {
-        return Err(format!("{} sound shapes, not 441", walked.shapes));
-    }
+    by_hand("sound shapes", walked.shapes, shapes::SOUND)?;
+    let both_busy = walked.both_busy;
+    by_hand("shapes that break (e) alone", both_busy, shapes::BOTH_BUSY)?;
     let mut driver = Driver {
         programs,
         graph: Graph::reachable(),
         tally: Tally::default(),
     };
+    let reached = shapes::by_mode(&driver.graph.shapes);
+    by_hand("shapes reached from fresh", reached, shapes::REACHED)?;
     if let Some(programs) = &driver.programs {
         println!("started as: {}", programs.command("listing")?.join(" "));
     }
@@ -164,6 +166,16 @@ fn drive(programs: Option<Programs>) -> Result<(), String> {
     }
     driver.summary(&walked, streams);
     println!("all agreed, {:.1} s", began.elapsed().as_secs_f32());
+    Ok(())
+}
+
+/// What the program counts, mode by mode, against what was worked out by hand.
+fn by_hand(what: &str, counted: ByMode, worked_out: ByMode) -> Result<(), String> {
+    if counted != worked_out {
+        return Err(format!(
+            "{what}: {counted:?} by mode, by hand {worked_out:?}"
+        ));
+    }
     Ok(())
 }
 
@@ -535,7 +547,7 @@ impl Driver {
         let t = &self.tally;
         println!(
             "walk: {} sound shapes, {} steps, at most {} records, {} (mode, event, status) combinations",
-            walked.shapes,
+            walked.shapes.iter().sum::<usize>(),
             walked.steps,
             walked.most_records,
             walked.reached.len()

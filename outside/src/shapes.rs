@@ -6,6 +6,54 @@ use std::collections::{HashMap, VecDeque};
 use crate::kinds::*;
 use crate::rules;
 
+/// A number for each mode.
+pub type ByMode = [usize; 7];
+
+/// The sound shapes, worked out by hand from 01's clauses and Q-1's (e). Free in every mode but BOOT are
+/// the two awaited flags (4), and LPA mode and SAA (4) unless LPA is RUNNING, which binds both (1).
+///
+/// | mode | LCI and LPA | shapes |
+/// |---|---|---|
+/// | BOOT | all zero, by (d) | 1 |
+/// | TERMINAL, QUIESCENT, HOLD | none RUNNING, one STOPPING at most: 3 pairs | 3 * 4 * 4 = 48 each |
+/// | CALIBRATION | LCI RUNNING or STOPPING, so LPA IDLE: 2 pairs | 2 * 4 * 4 = 32 |
+/// | PHYSICS | LPA RUNNING (1) or STOPPING (4), so LCI IDLE | (1 + 4) * 4 = 20 |
+/// | TOO, LCI IDLE | LPA RUNNING (1), STOPPING (4) or IDLE (4), in 2 TOO states | 9 * 4 * 2 = 72 |
+/// | TOO, LCI STOPPING | LPA IDLE (4), in 2 TOO states | 4 * 4 * 2 = 32 |
+pub const SOUND: ByMode = [1, 48, 48, 48, 32, 20, 72 + 32];
+
+/// The shapes that break (e) alone, by hand: (a) to (d) as above, and both tasks busy.
+///
+/// | mode | LCI and LPA | shapes |
+/// |---|---|---|
+/// | TERMINAL, QUIESCENT, HOLD | both STOPPING | 4 * 4 = 16 each |
+/// | CALIBRATION | LCI RUNNING or STOPPING, LPA STOPPING | 2 * 4 * 4 = 32 |
+/// | PHYSICS | LCI STOPPING, LPA RUNNING (1) or STOPPING (4) | 5 * 4 = 20 |
+/// | TOO | as PHYSICS, in 2 TOO states | 5 * 4 * 2 = 40 |
+pub const BOTH_BUSY: ByMode = [0, 16, 16, 16, 32, 20, 40];
+
+/// The shapes that can be reached from fresh, by hand. A task that is awaited is never IDLE there: what
+/// makes it IDLE ends the waiting too. So LCI with its flag has 1 form if IDLE, else 2, and so has LPA.
+///
+/// | mode | what is reached | shapes |
+/// |---|---|---|
+/// | BOOT | all zero | 1 |
+/// | TERMINAL | comes after BOOT alone: all zero but SAA | 2 |
+/// | QUIESCENT, HOLD | both IDLE (1), LCI STOPPING (2), LPA STOPPING (2); LPA mode, SAA | 5 * 4 = 20 each |
+/// | CALIBRATION | LCI RUNNING (2) or STOPPING (2); LPA mode, SAA | 4 * 4 = 16 |
+/// | PHYSICS | LPA mode NORMAL; RUNNING with SAA 0 (2), STOPPING with SAA 0 or 1 (4) | 6 |
+/// | TOO STARTED | LCI IDLE, LPA mode TOO; LPA RUNNING (2), STOPPING (4), IDLE (2) | 8 |
+/// | TOO WAITING | LPA mode, SAA: LPA STOPPING (2), both IDLE (1), LCI STOPPING (2) | 5 * 4 = 20 |
+pub const REACHED: ByMode = [1, 2, 20, 20, 16, 6, 8 + 20];
+
+pub fn by_mode(shapes: &[State]) -> ByMode {
+    let mut numbers = [0; 7];
+    for s in shapes {
+        numbers[usize::from(s.mode)] += 1;
+    }
+    numbers
+}
+
 pub fn shape_of(s: &State) -> State {
     State {
         armed: u32::from(s.too != too::NONE),
@@ -45,6 +93,13 @@ pub fn combinations() -> Vec<State> {
 
 pub fn sound_shapes() -> Vec<State> {
     combinations().into_iter().filter(rules::sound).collect()
+}
+
+/// Clause (e) alone is broken.
+pub fn both_busy_shapes() -> Vec<State> {
+    let mut all = combinations();
+    all.retain(|s| rules::sound_a_to_d(s) && !rules::sound(s));
+    all
 }
 
 /// All events with their parameter edges. The same place in the list means the same thing in every

@@ -5,28 +5,31 @@ use std::collections::BTreeSet;
 
 use crate::kinds::*;
 use crate::reader::{self, Reader};
-use crate::shapes::{combinations, edges, sound_shapes};
+use crate::shapes::{by_mode, combinations, edges, sound_shapes, ByMode};
 use crate::{log, rules};
 
 /// (mode, event, status)
 pub type Combination = (u16, u16, u16);
 
 pub struct Walked {
-    pub shapes: usize,
+    pub shapes: ByMode,
+    /// The shapes that were refused and break (e) alone.
+    pub both_busy: ByMode,
     pub steps: usize,
     pub most_records: usize,
     pub reached: BTreeSet<Combination>,
 }
 
 pub fn walk() -> Result<Walked, String> {
+    let shapes = sound_shapes();
     let mut walked = Walked {
-        shapes: 0,
+        shapes: by_mode(&shapes),
+        both_busy: [0; 7],
         steps: 0,
         most_records: 0,
         reached: BTreeSet::new(),
     };
-    for shape in sound_shapes() {
-        walked.shapes += 1;
+    for shape in shapes {
         for s in with_numbers(&shape) {
             for e in edges(&s) {
                 let n = one(&s, &e, &mut walked.reached)
@@ -39,6 +42,7 @@ pub fn walk() -> Result<Walked, String> {
     }
     for s in combinations().iter().filter(|s| !rules::sound(s)) {
         unsound(s)?;
+        walked.both_busy[usize::from(s.mode)] += usize::from(rules::sound_a_to_d(s));
     }
     for s in out_of_range() {
         unsound(&s)?;

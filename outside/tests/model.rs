@@ -1,4 +1,6 @@
-//! The model against document 01's own examples and words.
+//! The model against the examples and words of document 01 and of request Q-1.
+
+use std::collections::BTreeSet;
 
 use outside::expected;
 use outside::forge::{records_to, seal, Draft};
@@ -185,6 +187,139 @@ fn dwell_edges() {
         let answers = go(&mut quiescent(), &[e(event::TOOSTART, 7, dwell)]);
         assert_eq!(answers, [status], "dwell {dwell}");
     }
+}
+
+// ---- physics while a calibration is still stopping ----
+
+/// QUIESCENT with LCI STOPPING: a calibration that HOLDENTER stopped.
+fn still_stopping() -> Manager {
+    let mut m = quiescent();
+    let stopped = [
+        e(event::CALSTART, 0, 0),
+        e(event::HOLDENTER, 0, 0),
+        e(event::HOLDEXIT, 0, 0),
+    ];
+    go(&mut m, &stopped);
+    assert_eq!(
+        (m.state.mode, m.state.lci),
+        (mode::QUIESCENT, task::STOPPING)
+    );
+    m
+}
+
+/// The answer to one event and the records that it left in the open block.
+fn answer_and_records(m: &mut Manager, event: Event) -> (u16, Vec<Record>) {
+    let from = usize::from(m.log.used);
+    let answers = go(m, &[event]);
+    (answers[0], open_records(m, from))
+}
+
+#[test]
+fn toostart_waits_and_lpastart_is_taken_when_the_calibration_is_over() {
+    let lpastart = e(event::LPASTART, 8, 0);
+    let refused = |n| vec![Record::new(record::STATUS, answer::OTHSTOP, n)];
+    let mut m = still_stopping(); // after event 5
+    let before = m.state;
+    let found = answer_and_records(&mut m, lpastart);
+    assert_eq!(found, (answer::OTHSTOP, refused(6)));
+    assert_eq!(m.state, State { count: 6, ..before });
+
+    let waits = vec![
+        Record::new(record::TOOTIMER, 1, 600),
+        Record::new(record::TOOSTATE, too::WAITING, 0),
+        Record::new(record::OPMODE, mode::TOO, 0),
+        Record::new(record::STATUS, answer::SUCCESS, 7),
+    ];
+    let found = answer_and_records(&mut m, e(event::TOOSTART, 7, 600));
+    assert_eq!(found, (answer::SUCCESS, waits));
+    let found = answer_and_records(&mut m, lpastart);
+    assert_eq!(found, (answer::OTHSTOP, refused(8)));
+
+    // The end of the calibration starts nothing by itself.
+    let over = vec![
+        Record::new(record::CALCOMP, 0, 0),
+        Record::new(record::LCISTATE, task::IDLE, 0),
+        Record::new(record::STATUS, answer::SUCCESS, 9),
+    ];
+    let found = answer_and_records(&mut m, e(event::CALCOMPLETE, 0, 0));
+    assert_eq!(found, (answer::SUCCESS, over));
+    assert_eq!((m.state.lpa, m.state.too), (task::IDLE, too::WAITING));
+
+    let taken = vec![
+        Record::new(record::LPASTART, lpa_mode::TOO, 8),
+        Record::new(record::LPASTATE, task::RUNNING, 0),
+        Record::new(record::TOOSTATE, too::STARTED, 0),
+        Record::new(record::STATUS, answer::PKTSENT, 10),
+    ];
+    let found = answer_and_records(&mut m, lpastart);
+    assert_eq!(found, (answer::PKTSENT, taken));
+    assert_eq!((m.state.mode, m.state.armed), (mode::TOO, 7));
+}
+
+#[test]
+fn lpastart_is_taken_in_quiescent_when_the_calibration_is_over() {
+    let mut m = still_stopping();
+    let answers = go(
+        &mut m,
+        &[
+            e(event::CALSTATUS, 0, 0), // failed, but not in CALIBRATION: LCI stays STOPPING
+            e(event::LPASTART, 8, 0),
+            e(event::CALCOMPLETE, 0, 0),
+            e(event::LPASTART, 8, 0),
+        ],
+    );
+    use answer::*;
+    assert_eq!(answers, [SUCCESS, OTHSTOP, SUCCESS, PKTSENT]);
+    assert_eq!((m.state.mode, m.state.lpa), (mode::PHYSICS, task::RUNNING));
+}
+
+#[test]
+fn saa_comes_before_othstop() {
+    let lpastart = e(event::LPASTART, 8, 0);
+    let mut m = still_stopping();
+    let answers = go(&mut m, &[e(event::SAAENTER, 0, 0), lpastart]);
+    assert_eq!(answers[1], answer::SAA);
+    let answers = go(&mut m, &[e(event::TOOSTART, 7, 600), lpastart]);
+    assert_eq!(answers, [answer::SUCCESS, answer::SAA]);
+    assert_eq!((m.state.mode, m.state.too), (mode::TOO, too::WAITING));
+    let answers = go(&mut m, &[e(event::SAAEXIT, 0, 0), lpastart]);
+    assert_eq!(answers[1], answer::OTHSTOP);
+}
+
+#[test]
+fn badmode_and_badparam_come_before_the_wait_for_lci() {
+    let mut m = quiescent();
+    let answers = go(
+        &mut m,
+        &[
+            e(event::CALSTART, 0, 0),
+            e(event::LPASTART, 8, 0), // CALIBRATION, LCI RUNNING
+            e(event::TOOSTART, 7, 600),
+            e(event::HOLDENTER, 0, 0),
+            e(event::LPASTART, 8, 0), // HOLD, LCI STOPPING
+            e(event::TOOSTART, 7, 600),
+        ],
+    );
+    for place in [1, 2, 4, 5] {
+        assert_eq!(answers[place], answer::BADMODE);
+    }
+    let answers = go(&mut still_stopping(), &[e(event::TOOSTART, 7, 86_401)]);
+    assert_eq!(answers, [answer::BADPARAM]);
+}
+
+#[test]
+fn toostart_takes_a_run_over_as_before() {
+    let mut m = quiescent();
+    go(&mut m, &[e(event::LPASTART, 8, 0)]);
+    let taken_over = vec![
+        Record::new(record::TOOTIMER, 1, 600),
+        Record::new(record::LPAMODE, lpa_mode::TOO, 0),
+        Record::new(record::TOOSTATE, too::STARTED, 0),
+        Record::new(record::OPMODE, mode::TOO, 0),
+        Record::new(record::STATUS, answer::SUCCESS, 4),
+    ];
+    let found = answer_and_records(&mut m, e(event::TOOSTART, 7, 600));
+    assert_eq!(found, (answer::SUCCESS, taken_over));
 }
 
 // ---- Answers of the manager ----
@@ -522,6 +657,64 @@ fn wrong_content() {
     assert_eq!(with(vec![run, idle, status(11)]), reading::APPLIED);
 }
 
+/// A reader in QUIESCENT after 10 events, with LCI STOPPING.
+fn waiting_with_lci_stopping() -> Reader {
+    let mut r = waiting();
+    r.state.lci = task::STOPPING;
+    r
+}
+
+#[test]
+fn logs_of_earlier_releases() {
+    let r = waiting_with_lci_stopping();
+    let with = |records: &[Record]| ask(&r, &Draft::next_for(&r, records.to_vec()).bytes());
+    let sent = |v| Record::new(record::STATUS, answer::PKTSENT, v);
+    let lpastart = |mode| Record::new(record::LPASTART, mode, 8);
+    let running = Record::new(record::LPASTATE, task::RUNNING, 0);
+    let over = [
+        Record::new(record::CALCOMP, 0, 0),
+        Record::new(record::LCISTATE, task::IDLE, 0),
+    ];
+    // LPASTART as it was taken in QUIESCENT, while the calibration was stopping
+    let physics = Record::new(record::OPMODE, mode::PHYSICS, 0);
+    let taken = [lpastart(lpa_mode::NORMAL), running, physics];
+    assert_eq!(with(&[&taken[..], &[sent(11)]].concat()), reading::NONSENSE);
+    // TOOSTART that started physics then
+    let timer = Record::new(record::TOOTIMER, 1, 600);
+    let started = Record::new(record::TOOSTATE, too::STARTED, 0);
+    let in_too = Record::new(record::OPMODE, mode::TOO, 0);
+    let toostart = [
+        timer,
+        lpastart(lpa_mode::TOO),
+        running,
+        started,
+        in_too,
+        sent(11),
+    ];
+    assert_eq!(with(&toostart), reading::NONSENSE);
+    // CALCOMPLETE in the event after it does not help, in the event before it does
+    let late = [&toostart[..], &over, &[status(12)]].concat();
+    assert_eq!(with(&late), reading::NONSENSE);
+    let early = [&over[..], &[status(11)], &taken, &[sent(12)]].concat();
+    assert_eq!(with(&early), reading::APPLIED);
+}
+
+#[test]
+fn clause_e_is_asked_at_a_status_alone() {
+    let r = waiting();
+    let with = |records: Vec<Record>| ask(&r, &Draft::next_for(&r, records).bytes());
+    let lci = |d| Record::new(record::LCISTATE, d, 0);
+    let lpa = |d| Record::new(record::LPASTATE, d, 0);
+    let both = [lci(task::STOPPING), lpa(task::STOPPING)];
+    let then = |more: &[Record]| [&both[..], more].concat();
+    assert_eq!(with(then(&[status(11)])), reading::NONSENSE);
+    let late = [status(11), lpa(task::IDLE), status(12)];
+    assert_eq!(with(then(&late)), reading::NONSENSE);
+    for mend in [lci(task::IDLE), lpa(task::IDLE)] {
+        assert_eq!(with(then(&[mend, status(11)])), reading::APPLIED);
+    }
+}
+
 #[test]
 fn count_at_its_end() {
     let mut r = waiting();
@@ -556,10 +749,22 @@ fn count_at_its_end() {
 // ---- shapes ----
 
 #[test]
-fn sound_shapes_are_441_and_a_forged_event_leads_to_each() {
-    let all = shapes::sound_shapes();
-    assert_eq!(all.len(), 441);
-    for shape in all {
+fn shapes_as_worked_out_by_hand() {
+    let sound = shapes::sound_shapes();
+    let both_busy = shapes::both_busy_shapes();
+    let reached = shapes::Graph::reachable().shapes;
+    assert_eq!(shapes::by_mode(&sound), shapes::SOUND);
+    assert_eq!(shapes::by_mode(&both_busy), shapes::BOTH_BUSY);
+    assert_eq!(shapes::by_mode(&reached), shapes::REACHED);
+    assert_eq!(
+        (sound.len(), both_busy.len(), reached.len()),
+        (301, 140, 93)
+    );
+}
+
+#[test]
+fn a_forged_event_leads_to_each_sound_shape() {
+    for shape in shapes::sound_shapes() {
         let mut r = waiting();
         let records = records_to(&shape, r.state.count);
         assert!(records.len() <= RECORDS_MOST);
@@ -568,6 +773,37 @@ fn sound_shapes_are_441_and_a_forged_event_leads_to_each() {
         r = read.reader;
         assert_eq!(shapes::shape_of(&r.state), shape);
         assert!(rules::sound(&r.state));
+    }
+}
+
+/// 01's (a) and (b) leave nine ways in which both tasks are busy: mode, LCI, LPA.
+#[test]
+fn the_nine_ways_to_break_clause_e_alone() {
+    use mode::*;
+    use task::{RUNNING, STOPPING};
+    let nine = [
+        (TERMINAL, STOPPING, STOPPING),
+        (QUIESCENT, STOPPING, STOPPING),
+        (HOLD, STOPPING, STOPPING),
+        (CALIBRATION, RUNNING, STOPPING),
+        (CALIBRATION, STOPPING, STOPPING),
+        (PHYSICS, STOPPING, RUNNING),
+        (PHYSICS, STOPPING, STOPPING),
+        (TOO, STOPPING, RUNNING),
+        (TOO, STOPPING, STOPPING),
+    ];
+    let all = shapes::both_busy_shapes();
+    let found: BTreeSet<_> = all.iter().map(|s| (s.mode, s.lci, s.lpa)).collect();
+    assert_eq!(found, BTreeSet::from(nine));
+    for s in all {
+        let mut m = log::fresh(7);
+        (m.state, m.log.before) = (s, s.count);
+        assert_eq!(go(&mut m, &[e(event::NOOP, 0, 0)]), [answer::BADSTATE]);
+        let r = Reader {
+            state: s,
+            ..reader::fresh(7)
+        };
+        assert_eq!(ask(&r, &one_noop(&r).bytes()), reading::RSTATE);
     }
 }
 
