@@ -149,7 +149,7 @@ fn drive(programs: Option<Programs>) -> Result<(), String> {
     if let Some(programs) = &driver.programs {
         println!("started as: {}", programs.command("listing")?.join(" "));
     }
-    driver.example()?;
+    driver.sessions()?;
     driver.usage_errors()?;
     // Short streams come first, since what fails on them is easy to read.
     for n in 0..16 {
@@ -291,30 +291,21 @@ impl Driver {
         Err(Fault::new(Kind::Ending, told))
     }
 
-    // -- document 01's example, and wrong words --
+    // -- sessions worked out by hand, no input, and wrong words --
 
-    fn example(&mut self) -> Result<(), String> {
-        let input = expected::example_input();
-        if expected::listing(&input) != expected::EXAMPLE_TEXT {
-            return Err("the model's listing is not 01's text".to_string());
-        }
-        for input in [&input[..], &[]] {
-            for (name, args, group) in [
-                ("listing", vec![], 12),
-                ("flight", vec!["7".to_string()], 12),
-                ("desk", vec!["7".to_string()], 512),
-            ] {
-                let case = Case {
-                    title: "01's example".to_string(),
-                    name,
-                    args,
-                    group,
-                    pieces: None,
-                };
-                self.agree(&case, input)?;
+    /// Through listing and flight, and through desk what flight writes.
+    fn sessions(&mut self) -> Result<(), String> {
+        for session in expected::SESSIONS {
+            let input = session.input();
+            if !session.agrees() {
+                return Err(format!("{}: the model writes another text", session.title));
             }
+            self.events(session.title, &input, "7", None)?;
+            let blocks = expected::flight(&input, 7).blocks;
+            self.deliver(session.title, &blocks, "7", None)?;
         }
-        Ok(())
+        self.events("no input", &[], "7", None)?;
+        self.deliver("no input", &[], "7", None)
     }
 
     /// Issue 7: wrong words give one line on standard error, nothing on standard output.

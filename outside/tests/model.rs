@@ -72,8 +72,9 @@ fn a_cut_last_string_has_no_check() {
 
 #[test]
 fn the_nine_lines() {
-    let text = expected::listing(&expected::example_input());
-    assert_eq!(text, expected::EXAMPLE_TEXT);
+    let text = expected::listing(&expected::EXAMPLE.input());
+    assert_eq!(text, expected::EXAMPLE.text);
+    assert!(expected::EXAMPLE.agrees(), "what desk writes");
 }
 
 #[test]
@@ -212,6 +213,14 @@ fn answer_and_records(m: &mut Manager, event: Event) -> (u16, Vec<Record>) {
     let from = usize::from(m.log.used);
     let answers = go(m, &[event]);
     (answers[0], open_records(m, from))
+}
+
+#[test]
+fn the_sessions_of_q1() {
+    for session in [expected::STILL_STOPPING, expected::STILL_STOPPING_IN_SAA] {
+        assert_eq!(expected::listing(&session.input()), session.text);
+        assert!(session.agrees(), "what desk writes");
+    }
 }
 
 #[test]
