@@ -8,6 +8,7 @@ use std::io::{Read, Write};
 use std::path::Path;
 use std::time::{Duration, Instant};
 
+use outside::cases::{self, CASES};
 use outside::demand3::{self, hex, Op};
 use outside::forge::Forger;
 use outside::kinds::*;
@@ -113,6 +114,8 @@ struct Tally {
     forged: [usize; 7],
     combinations: BTreeSet<Combination>,
     shapes: BTreeSet<[u16; 8]>,
+    /// Q-1's cases, in streams alone.
+    cases: cases::Met,
 }
 
 impl Tally {
@@ -165,6 +168,7 @@ fn drive(programs: Option<Programs>) -> Result<(), String> {
         }
     }
     driver.summary(&walked, streams);
+    driver.cases_met(streams)?;
     println!("all agreed, {:.1} s", began.elapsed().as_secs_f32());
     Ok(())
 }
@@ -448,6 +452,7 @@ impl Driver {
         };
         let pieces = random.one_in(2).then_some(own);
         let input = streams::stream(&mut random, &self.graph, style, length);
+        cases::count(&input, &mut self.tally.cases);
         self.events(&title, &input, &word, pieces)?;
 
         // The same events as calls of a manager: with flushes between in half of the streams, and then
@@ -575,6 +580,23 @@ impl Driver {
             "the reader's answers to forged blocks: {}",
             answers(&t.forged)
         );
+    }
+
+    /// Each of Q-1's cases was met, and often: at least as many times as each style had long streams.
+    fn cases_met(&self, streams: usize) -> Result<(), String> {
+        println!("Q-1's cases in the streams:");
+        let least = streams / STYLES.len();
+        let mut rare = 0;
+        for (case, n) in CASES.iter().zip(self.tally.cases) {
+            println!("  {n} times {}", case.title());
+            rare += usize::from(n < least);
+        }
+        if rare > 0 {
+            return Err(format!(
+                "{rare} of Q-1's cases were met less than {least} times"
+            ));
+        }
+        Ok(())
     }
 }
 

@@ -68,13 +68,48 @@ struct Planner<'a> {
 }
 
 impl Planner<'_> {
+    /// Where Q-1 matters: physics can be asked for while the calibration is not over.
+    fn still_stopping(&self) -> bool {
+        let s = &self.state;
+        s.lci == task::STOPPING && [mode::QUIESCENT, mode::TOO].contains(&s.mode)
+    }
+
     /// A code that leads on from this mode, as a person at a bench would want to go.
     fn biased_code(&mut self) -> u16 {
         use event::*;
         let codes: &[u16] = match self.state.mode {
             mode::BOOT => &[STARTED, STARTED, STARTED, STARTED, NOOP],
             mode::TERMINAL => &[MAINFEEDON, MAINFEEDON, MAINFEEDON, SAAENTER, SAAEXIT],
+            // The SAA comes and goes, since it is asked before LCI is.
+            mode::QUIESCENT if self.still_stopping() => &[
+                LPASTART,
+                LPASTART,
+                LPASTART,
+                TOOSTART,
+                TOOSTART,
+                TOOSTART,
+                SAAENTER,
+                SAAEXIT,
+                CALSTART,
+                CALABORT,
+                CALCOMPLETE,
+                HOLDENTER,
+            ],
+            mode::TOO if self.still_stopping() => &[
+                LPASTART,
+                LPASTART,
+                LPASTART,
+                SAAENTER,
+                SAAEXIT,
+                CALCOMPLETE,
+                CALCOMPLETE,
+                CALABORT,
+                TOOSTART,
+                TOOEXPIRED,
+                TOOABORT,
+            ],
             mode::QUIESCENT => &[
+                CALSTART,
                 CALSTART,
                 CALSTART,
                 LPASTART,
@@ -92,7 +127,15 @@ impl Planner<'_> {
                 LPACOMPLETE,
                 CALCOMPLETE,
             ],
-            mode::HOLD => &[HOLDEXIT, HOLDEXIT, LPACOMPLETE, CALCOMPLETE, SAAEXIT, NOOP],
+            mode::HOLD => &[
+                HOLDEXIT,
+                HOLDEXIT,
+                HOLDEXIT,
+                LPACOMPLETE,
+                CALCOMPLETE,
+                SAAEXIT,
+                NOOP,
+            ],
             mode::CALIBRATION => &[
                 CALSTATUS,
                 CALSTATUS,
@@ -100,6 +143,8 @@ impl Planner<'_> {
                 CALOTHER,
                 CALCOMPLETE,
                 SAAENTER,
+                HOLDENTER,
+                HOLDENTER,
                 HOLDENTER,
             ],
             mode::PHYSICS => &[
@@ -186,8 +231,10 @@ impl Planner<'_> {
             if let Some(edge) = self.way.pop() {
                 return edges(&self.state)[edge];
             }
-            let all = edges(&self.state);
-            return self.random.pick(&all);
+            if !self.still_stopping() || self.random.one_in(2) {
+                let all = edges(&self.state);
+                return self.random.pick(&all);
+            }
         }
         let anything = style == Style::Random || self.random.one_in(6);
         let code = if anything {

@@ -2,6 +2,7 @@
 
 use std::collections::BTreeSet;
 
+use outside::cases::{self, CASES};
 use outside::expected;
 use outside::forge::{records_to, seal, Draft};
 use outside::kinds::*;
@@ -329,6 +330,15 @@ fn toostart_takes_a_run_over_as_before() {
     ];
     let found = answer_and_records(&mut m, e(event::TOOSTART, 7, 600));
     assert_eq!(found, (answer::SUCCESS, taken_over));
+}
+
+#[test]
+fn every_case_is_on_the_tour() {
+    let mut met = [0; CASES.len()];
+    cases::count(&input(&shapes::Graph::reachable().tour()), &mut met);
+    for (case, n) in CASES.iter().zip(met) {
+        assert!(n > 0, "{}", case.title());
+    }
 }
 
 // ---- Answers of the manager ----
