@@ -5,7 +5,7 @@ use crate::kinds::*;
 use crate::log;
 use crate::reader::{self, Reader};
 use crate::rules;
-use crate::shapes::edges;
+use crate::shapes::{both_busy_shapes, edges, sound_shapes};
 use crate::streams::Random;
 
 /// A block's fields before its check is worked out.
@@ -28,6 +28,13 @@ impl Draft {
             before: r.state.count,
             records,
         }
+    }
+
+    /// More records at a place; what is too much for a block falls off its end.
+    fn put_in(&mut self, at: usize, records: &[Record]) {
+        self.records.splice(at..at, records.iter().copied());
+        self.records.truncate(log::CAPACITY);
+        self.used = self.records.len() as u16;
     }
 
     pub fn bytes(&self) -> Vec<u8> {
@@ -75,6 +82,31 @@ pub fn records_to(shape: &State, count: u32) -> Vec<Record> {
     records
 }
 
+/// The records of two events: a reboot, and one that brings BOOT to this shape and then has this change
+/// before its STATUS. With the reboot in the same event, an event for TOO would have 11 records.
+fn records_through(shape: &State, change: Record, count: u32) -> Vec<Record> {
+    let mut records = records_to(shape, count + 1);
+    records.insert(records.len() - 1, change);
+    records.insert(1, Record::new(record::STATUS, answer::SUCCESS, count + 1));
+    records
+}
+
+/// The strings of `Forger::both_busy` and `Forger::earlier_releases`, by hand. NONSENSE: the 140 shapes of
+/// `shapes::BOTH_BUSY`; the 32 of CALIBRATION and 20 of PHYSICS that lose their own task; 8 shapes of
+/// QUIESCENT by LPASTART and by TOOSTART, 16 of TOO by LPASTART. APPLIED: the 140 with LCI made IDLE but
+/// for CALIBRATION, with LPA made IDLE but for PHYSICS, and all of them rebooted.
+pub const BUSY_NONSENSE: usize = 140 + 32 + 20 + 2 * 8 + 16;
+pub const BUSY_APPLIED: usize = (140 - 32) + (140 - 20) + 140;
+
+/// Two records that make both tasks busy.
+fn make_both_busy(random: &mut Random) -> [Record; 2] {
+    let mut busy = || random.pick(&[task::RUNNING, task::STOPPING]);
+    [
+        Record::new(record::LCISTATE, busy(), 0),
+        Record::new(record::LPASTATE, busy(), 0),
+    ]
+}
+
 /// Strings for a reader, delivered one after the other.
 pub struct Forger {
     pub reader: Reader,
@@ -114,7 +146,7 @@ impl Forger {
                 }
             }
         }
-        for shape in crate::shapes::sound_shapes() {
+        for shape in sound_shapes() {
             for r in &tried {
                 let count = self.reader.state.count;
                 let mut records = records_to(&shape, count);
@@ -124,6 +156,82 @@ impl Forger {
                 self.deliver(draft.bytes());
             }
         }
+    }
+
+    /// Delivers a block with these records. The answer that is wanted was worked out by hand.
+    fn expect(&mut self, records: Vec<Record>, wanted: u16) -> Result<(), String> {
+        let draft = Draft::next_for(&self.reader, records);
+        let before = self.reader.state;
+        let answer = self.deliver(draft.bytes());
+        if answer != wanted {
+            return Err(format!(
+                "{} to a forged block, {} expected\n  state {before:?}\n  records {:?}",
+                reading::NAMES[usize::from(answer)],
+                reading::NAMES[usize::from(wanted)],
+                draft.records
+            ));
+        }
+        Ok(())
+    }
+
+    /// Every shape that breaks (e) alone: NONSENSE where an event ends in it; where an event only passes
+    /// through it, what counts is the state at the STATUS.
+    pub fn both_busy(&mut self) -> Result<(), String> {
+        for shape in both_busy_shapes() {
+            let records = records_to(&shape, self.reader.state.count);
+            self.expect(records, reading::NONSENSE)?;
+            let lci_idle = Record::new(record::LCISTATE, task::IDLE, 0);
+            let lpa_idle = Record::new(record::LPASTATE, task::IDLE, 0);
+            let reboot = Record::new(record::SIUREBOOT, 0, 0);
+            for (change, sound) in [
+                (lci_idle, shape.mode != mode::CALIBRATION), // (a)
+                (lpa_idle, shape.mode != mode::PHYSICS),     // (b)
+                (reboot, true),
+            ] {
+                let wanted = if sound {
+                    reading::APPLIED
+                } else {
+                    reading::NONSENSE
+                };
+                let records = records_through(&shape, change, self.reader.state.count);
+                self.expect(records, wanted)?;
+            }
+        }
+        Ok(())
+    }
+
+    /// Blocks as earlier releases closed them: physics started while LCI was STOPPING, and the
+    /// calibration over by the next event, which is too late.
+    pub fn earlier_releases(&mut self) -> Result<(), String> {
+        let lpastart = Event::new(event::LPASTART, 8, 0);
+        let toostart = Event::new(event::TOOSTART, 7, 600);
+        let mut shapes = sound_shapes();
+        shapes.retain(|s| s.lci == task::STOPPING && s.saa == 0);
+        for shape in shapes {
+            let starts: &[Event] = match shape.mode {
+                mode::QUIESCENT => &[lpastart, toostart],
+                mode::TOO => &[lpastart],
+                _ => &[],
+            };
+            for e in starts {
+                let count = self.reader.state.count;
+                let mut records = records_to(&shape, count);
+                // They did not ask for LCI: what they wrote is what is written now while LCI is IDLE.
+                let unasked = State {
+                    lci: task::IDLE,
+                    count: count + 1,
+                    ..shape
+                };
+                records.extend(rules::outcome(&unasked, e).records);
+                records.extend([
+                    Record::new(record::CALCOMP, 0, 0),
+                    Record::new(record::LCISTATE, task::IDLE, 0),
+                    Record::new(record::STATUS, answer::SUCCESS, count + 3),
+                ]);
+                self.expect(records, reading::NONSENSE)?;
+            }
+        }
+        Ok(())
     }
 
     /// Every code with values in and out of range, in an event that is sound whatever the record did.
@@ -286,9 +394,7 @@ impl Forger {
             }
             13 => {
                 let copy = draft.records[some];
-                draft.records.insert(some, copy);
-                draft.records.truncate(log::CAPACITY);
-                draft.used = draft.records.len() as u16;
+                draft.put_in(some, &[copy]);
             }
             14 => {
                 draft.records.pop();
@@ -299,10 +405,21 @@ impl Forger {
                 // any change of the state before the last STATUS: often not sound
                 let code = 1 + random.below(7) as u16;
                 let d = random.below(3) as u16;
-                let at = n - 1;
-                draft.records.insert(at, Record::new(code, d, 0));
-                draft.records.truncate(log::CAPACITY);
-                draft.used = draft.records.len() as u16;
+                draft.put_in(n - 1, &[Record::new(code, d, 0)]);
+            }
+            17 => {
+                // both tasks busy at the last STATUS
+                draft.put_in(n - 1, &make_both_busy(random));
+            }
+            18 => {
+                // both tasks busy within the first event, then again as they were: no fault
+                let s = &self.reader.state;
+                let as_before = [
+                    Record::new(record::LCISTATE, s.lci, 0),
+                    Record::new(record::LPASTATE, s.lpa, 0),
+                ];
+                draft.put_in(0, &as_before);
+                draft.put_in(0, &make_both_busy(random));
             }
             _ => {}
         }

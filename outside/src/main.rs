@@ -10,7 +10,7 @@ use std::time::{Duration, Instant};
 
 use outside::cases::{self, CASES};
 use outside::demand3::{self, hex, Op};
-use outside::forge::Forger;
+use outside::forge::{self, Forger};
 use outside::kinds::*;
 use outside::programs::{Output, Programs, PATIENCE, PATIENCE_SHORT};
 use outside::shapes::{self, edges, shape_of, ByMode, Graph};
@@ -153,6 +153,7 @@ fn drive(programs: Option<Programs>) -> Result<(), String> {
         println!("started as: {}", programs.command("listing")?.join(" "));
     }
     driver.sessions()?;
+    driver.both_busy()?;
     driver.usage_errors()?;
     // Short streams come first, since what fails on them is easy to read.
     for n in 0..16 {
@@ -295,7 +296,7 @@ impl Driver {
         Err(Fault::new(Kind::Ending, told))
     }
 
-    // -- sessions worked out by hand, no input, and wrong words --
+    // -- sessions and forged blocks worked out by hand, no input, and wrong words --
 
     /// Through listing and flight, and through desk what flight writes.
     fn sessions(&mut self) -> Result<(), String> {
@@ -310,6 +311,21 @@ impl Driver {
         }
         self.events("no input", &[], "7", None)?;
         self.deliver("no input", &[], "7", None)
+    }
+
+    /// Clause (e) in every way it can be broken, through desk: as many forged blocks as there are by hand.
+    fn both_busy(&mut self) -> Result<(), String> {
+        let mut forger = Forger::new(7);
+        forger.both_busy()?;
+        forger.earlier_releases()?;
+        let number = |answer| forger.answers.iter().filter(|a| **a == answer).count();
+        let (nonsense, applied) = (number(reading::NONSENSE), number(reading::APPLIED));
+        println!("clause (e): {nonsense} forged blocks NONSENSE, {applied} APPLIED");
+        if (nonsense, applied) != (forge::BUSY_NONSENSE, forge::BUSY_APPLIED) {
+            return Err("clause (e): other numbers by hand".to_string());
+        }
+        self.tally.note_forged(&forger, 0);
+        self.deliver("clause (e)", &forger.strings.concat(), "7", None)
     }
 
     /// Issue 7: wrong words give one line on standard error, nothing on standard output.

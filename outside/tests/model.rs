@@ -4,7 +4,7 @@ use std::collections::BTreeSet;
 
 use outside::cases::{self, CASES};
 use outside::expected;
-use outside::forge::{records_to, seal, Draft};
+use outside::forge::{self, records_to, seal, Draft, Forger};
 use outside::kinds::*;
 use outside::log::{self, Manager};
 use outside::reader::{self, Reader};
@@ -824,6 +824,17 @@ fn the_nine_ways_to_break_clause_e_alone() {
         };
         assert_eq!(ask(&r, &one_noop(&r).bytes()), reading::RSTATE);
     }
+}
+
+#[test]
+fn forged_blocks_around_clause_e() {
+    let mut forger = Forger::new(7);
+    assert_eq!(forger.both_busy(), Ok(()));
+    assert_eq!(forger.earlier_releases(), Ok(()));
+    let number = |answer| forger.answers.iter().filter(|a| **a == answer).count();
+    assert_eq!(number(reading::NONSENSE), forge::BUSY_NONSENSE);
+    assert_eq!(number(reading::APPLIED), forge::BUSY_APPLIED);
+    assert_eq!(forger.strings.len(), 224 + 368);
 }
 
 #[test]
