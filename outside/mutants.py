@@ -14,6 +14,20 @@ HERE = os.path.dirname(os.path.abspath(__file__))
 ROOM = os.path.join(HERE, "target", "mutants")
 DRIVER = os.path.join(HERE, "target", "release", "outside")
 
+# Clause (e), and the nine ways in which both tasks are busy and (a) to (d) hold: mode, LCI, LPA.
+CLAUSE_E = "s.lci == task::IDLE || s.lpa == task::IDLE"
+BOTH_BUSY = [
+    ("TERMINAL", "STOPPING", "STOPPING"),
+    ("QUIESCENT", "STOPPING", "STOPPING"),
+    ("HOLD", "STOPPING", "STOPPING"),
+    ("CALIBRATION", "RUNNING", "STOPPING"),
+    ("CALIBRATION", "STOPPING", "STOPPING"),
+    ("PHYSICS", "STOPPING", "RUNNING"),
+    ("PHYSICS", "STOPPING", "STOPPING"),
+    ("TOO", "STOPPING", "RUNNING"),
+    ("TOO", "STOPPING", "STOPPING"),
+]
+
 # name, file, what stands there, what is put in its place
 MUTANTS = [
     # 01, Strength of the promises
@@ -47,6 +61,24 @@ MUTANTS = [
     ("POWERON with b", "kinds.rs", "event::POWERON | event::POWEROFF => (true, false)", "event::POWERON | event::POWEROFF => (true, true)"),
     ("report 2", "kinds.rs", "&& a > 1", "&& a > 2"),
     ("zero field's high byte", "kinds.rs", "if zero != 0 ||", "if zero & 0xFF != 0 ||"),
+    # physics while a calibration is still stopping
+    ("LPASTART while LCI stops", "rules.rs", "s.lpa == task::STOPPING || s.lci != task::IDLE", "s.lpa == task::STOPPING"),
+    ("LPASTART in QUIESCENT while LCI stops", "rules.rs", "s.lpa == task::STOPPING || s.lci != task::IDLE", "s.lpa == task::STOPPING || (s.lci != task::IDLE && s.mode == mode::TOO)"),
+    ("LPASTART in TOO while LCI stops", "rules.rs", "s.lpa == task::STOPPING || s.lci != task::IDLE", "s.lpa == task::STOPPING || (s.lci != task::IDLE && s.mode == mode::QUIESCENT)"),
+    ("LPASTART asks whether LCI is STOPPING", "rules.rs", "s.lpa == task::STOPPING || s.lci != task::IDLE", "s.lpa == task::STOPPING || s.lci == task::STOPPING"),
+    ("OTHSTOP before SAA", "rules.rs", "r.refuse(answer::SAA, s.saa == 1);", "r.refuse(answer::SAA, s.saa == 1 && s.lci == task::IDLE);"),
+    ("OTHSTOP before BADMODE", "rules.rs", "r.refuse(answer::BADMODE, !mode_is(&[mode::QUIESCENT, mode::TOO]));", "r.refuse(answer::BADMODE, s.lci == task::IDLE && !mode_is(&[mode::QUIESCENT, mode::TOO]));"),
+    ("OTHRUN while LCI stops", "rules.rs", "r.refuse(answer::OTHRUN, s.lpa == task::RUNNING);", "r.refuse(answer::OTHRUN, s.lpa == task::RUNNING || s.lci != task::IDLE);"),
+    ("TOOSTART starts physics while LCI stops", "rules.rs", "s.lpa == task::IDLE && s.saa == 0 && s.lci == task::IDLE", "s.lpa == task::IDLE && s.saa == 0"),
+    ("TOOSTART waits for LCI and says PKTSENT", "rules.rs", "r.put_d(record::TOOSTATE, too::WAITING);", "r.put_d(record::TOOSTATE, too::WAITING); if s.saa == 0 && s.lci != task::IDLE { r.status = answer::PKTSENT; }"),
+    ("TOOSTART waits for LCI and is STARTED", "rules.rs", "r.put_d(record::TOOSTATE, too::WAITING);", "r.put_d(record::TOOSTATE, if s.saa == 0 && s.lci != task::IDLE { too::STARTED } else { too::WAITING });"),
+    ("TOOSTART refused while LCI stops", "rules.rs", "r.refuse(answer::BADPARAM, e.b < 1 || e.b > DWELL_MOST);", "r.refuse(answer::BADPARAM, e.b < 1 || e.b > DWELL_MOST); r.refuse(answer::OTHSTOP, s.lci != task::IDLE);"),
+    ("CALCOMPLETE starts the physics that waits", "rules.rs", "if s.mode == mode::CALIBRATION {", "if s.too == too::WAITING && s.lci != task::IDLE && s.saa == 0 { r.put_d(record::LPASTART, lpa_mode::TOO); r.put_d(record::LPASTATE, task::RUNNING); r.put_d(record::TOOSTATE, too::STARTED); }\n            if s.mode == mode::CALIBRATION {"),
+    ("no clause (e)", "rules.rs", "sound_a_to_d(s) && sound_e(s)", "sound_a_to_d(s)"),
+    ("clause (e) but for a task that runs", "rules.rs", CLAUSE_E, "s.lci != task::STOPPING || s.lpa != task::STOPPING"),
+    *((f"clause (e) but for {m}, LCI {lci}, LPA {lpa}", "rules.rs", CLAUSE_E, f"{CLAUSE_E} || (s.mode, s.lci, s.lpa) == (mode::{m}, task::{lci}, task::{lpa})") for m, lci, lpa in BOTH_BUSY),
+    ("clause (e) between records", "reader.rs", "rules::effect(&mut state, &record);", "rules::effect(&mut state, &record); if state.lci != task::IDLE && state.lpa != task::IDLE { return None; }"),
+    ("clause (e) at a block's first STATUS alone", "reader.rs", "if !rules::sound(&state) {", "if !rules::sound_a_to_d(&state) || (record.v == before.count + 1 && !rules::sound(&state)) {"),
     # the log
     ("closes at 61", "log.rs", "outcome.records.len() <= CAPACITY", "outcome.records.len() < CAPACITY"),
     ("a change that changes nothing", "log.rs", "written: !fits,\n", "written: !fits || outcome.status == 99,\n"),
@@ -77,7 +109,11 @@ MUTANTS = [
 ]
 
 # Changes that change nothing: the driver must find no fault, or it sees ghosts.
-HARMLESS = {"a change that changes nothing"}
+HARMLESS = {
+    "a change that changes nothing",
+    # by (a) LCI is not RUNNING where LPASTART is taken
+    "LPASTART asks whether LCI is STOPPING",
+}
 
 # Changes that the model's own checks must see too, with no program beside them: demand 3, the walk.
 BY_ITSELF = {
@@ -93,6 +129,15 @@ BY_ITSELF = {
     "a lower GAP lowers heard",
     "any log number",
     "9 records",
+    "LPASTART while LCI stops",
+    "LPASTART in QUIESCENT while LCI stops",
+    "LPASTART in TOO while LCI stops",
+    "OTHSTOP before SAA",
+    "TOOSTART starts physics while LCI stops",
+    "TOOSTART waits for LCI and says PKTSENT",
+    "CALCOMPLETE starts the physics that waits",
+    "no clause (e)",
+    "clause (e) between records",
 }
 
 
