@@ -1,8 +1,10 @@
 -- What the requests have added, worked out as the sixteen cases are: a table for each request, and one computed statement about it.
 -- Assumes nothing.
-use mathlib.Core.Bool.{true, false}
+use mathlib.Core.Bool.{true, false, _&&_}
 use mathlib.Core.List.{List, [], _∷_, _++_}
 use mathlib.Core.Path.{_≡_, refl}
+use lib.Dec.{eqb}
+use lib.ListN.{length}
 use Rattle.kinds.specs.Choice.{every}
 use Rattle.events.specs.declared.Event.{Event}
 use Rattle.fidelity_example.specs.Table.{Case, case, comesOut, ready, worked}
@@ -28,6 +30,7 @@ stillStopping =
     ∷ case (stopping ++ Event.CalComplete ∷ []) (Event.LpaStart 7) (7 ∷ 1 ∷ 5 ∷ 0 ∷ 1 ∷ 0 ∷ 0 ∷ 0 ∷ 4 ∷ []) 22 false
     ∷ []
 
-pub still-stopping : every comesOut stillStopping ≡ true
+-- there are seven, and all come out
+pub still-stopping : (eqb (length stillStopping) 7 && every comesOut stillStopping) ≡ true
 unfolding worked
 still-stopping = refl
