@@ -9,15 +9,16 @@ use Rattle.kinds.specs.Choice.{every}
 use Rattle.events.specs.declared.Event.{Event}
 use Rattle.fidelity_example.specs.Table.{Case, case, comesOut, ready, worked}
 
--- Q-1: a calibration that a hold stopped and that has not ended, in QUIESCENT; and then a target that waits for it
+-- For Q-1: a calibration that a hold stopped and that has not ended, in QUIESCENT; and then a target that waits for it
 abbrev pub stopping : List Event
 stopping = ready ++ Event.CalStart ∷ Event.HoldEnter ∷ Event.HoldExit ∷ []
 
 abbrev pub waiting : List Event
 waiting = stopping ++ Event.TooStart 8 600 ∷ []
 
-abbrev pub stillStopping : List Case
-stillStopping =
+-- Q-1: physics asked for before the calibration has ended, and after
+abbrev pub q1 : List Case
+q1 =
     -- a start is OTHSTOP, but SAA goes before it
     case stopping (Event.LpaStart 7) (6 ∷ 9 ∷ 2 ∷ 2 ∷ 0 ∷ 0 ∷ 0 ∷ 0 ∷ 1 ∷ []) 16 false
     ∷ case (stopping ++ Event.SaaEnter ∷ []) (Event.LpaStart 7) (7 ∷ 7 ∷ 2 ∷ 2 ∷ 0 ∷ 1 ∷ 0 ∷ 0 ∷ 1 ∷ []) 19 false
@@ -31,6 +32,6 @@ stillStopping =
     ∷ []
 
 -- there are seven, and all come out
-pub still-stopping : (eqb (length stillStopping) 7 && every comesOut stillStopping) ≡ true
+pub q1-comes-out : (eqb (length q1) 7 && every comesOut q1) ≡ true
 unfolding worked
-still-stopping = refl
+q1-comes-out = refl

@@ -1,8 +1,10 @@
 // The rules of the physics task, LPA (Mode rules).
+ghost use mathlib.Core.Bool.{not, _||_};
 ghost use mathlib.Core.Path.{_≡_};
 ghost use Rattle.kinds.specs.Choice.{if_then_else_};
 ghost use Rattle.kinds.specs.declared.lpa_mode.LpaMode.{LpaMode};
-ghost use Rattle.rules.specs.Rule.{decide};
+ghost use Rattle.kinds.specs.declared.task.Task.{Task};
+ghost use Rattle.rules.specs.Rule.{decide, lciIs, lpaIs};
 ghost use Rattle.rules.specs.Rules.{lpaStart, lpaStop, lpaOther, lpaStatus, lpaComplete};
 ghost use Rattle.rules.specs.Ruling.{ruledAs};
 use draft::Ruling;
@@ -34,7 +36,7 @@ pub fn lpa_start(s: State, run: u32) -> Ruling
     if lpa_is(s, Task::Running) {
         return refused(s, Status::OthRun);
     }
-    if lpa_is(s, Task::Stopping) | !lci_is(s, Task::Idle) {
+    if still_stopping(s) {
         return refused(s, Status::OthStop);
     }
     let mode = mode_to_start(quiescent);
@@ -45,6 +47,13 @@ pub fn lpa_start(s: State, run: u32) -> Ruling
         .emit_if(quiescent, Record::OpMode(Mode::Physics))
         .emit_if(too & waiting, Record::TooState(TooState::Started))
         .done(Status::PktSent)
+}
+
+// The run before has not ended, or a calibration has not.
+fn still_stopping(s: State) -> bool
+    ensures { λ r. ⌜ r ≡ (lpaIs s Task.Stopping || not (lciIs s Task.Idle)) ⌝ }
+{
+    lpa_is(s, Task::Stopping) | !lci_is(s, Task::Idle)
 }
 
 // For the observation, or for the target of opportunity.
