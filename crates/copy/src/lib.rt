@@ -1,12 +1,12 @@
 // The one loop that copies bytes of a string into another.
 ghost use Rattle.std.specs.Prelude.{◌≡◌, ◌+◌, ◌≤◌, length};
 ghost use Rattle.std.proofs.Math.Seq.{paste};
-ghost use Rattle.copy.specs.Copy.{hasRoom, copied};
+ghost use Rattle.copy.specs.Copy.{has_room, copied};
 
 // The first `long` bytes of a string, copied to a place of another. Where one of the two has not so many, nothing is copied, and the
 // answer is no.
 pub fn copy(from: &[u8], long: usize, to: &mut [u8], at: usize) -> bool
-    ensures { (result ≡ hasRoom from.now long to.old at)
+    ensures { (result ≡ has_room from.now long to.old at)
         × (to.new ≡ copied from.now long to.old at) }
 {
     if from.len() < long {

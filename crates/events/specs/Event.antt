@@ -3,7 +3,7 @@
 -- Assumes nothing.
 use Rattle.std.specs.Prelude.{ℕ, Bool, true, false, List, [], ◌∷◌, eqb}
 use Rattle.kinds.specs.Choice.{if◌then◌else◌, select}
-use Rattle.kinds.specs.Kinds.{flagNumber, flagOf}
+use Rattle.kinds.specs.Kinds.{flag_number, flag_of}
 use Rattle.kinds.specs.declared.flag.FoundFlag.{FoundFlag}
 use Rattle.events.specs.declared.Event.{Event}
 use Rattle.events.specs.declared.EventParts.{EventParts}
@@ -78,79 +78,79 @@ LPASTATUS = 22
 abbrev pub LPACOMPLETE : ℕ
 LPACOMPLETE = 23
 
-abbrev pub eventParts : ℕ → ℕ → ℕ → EventParts
-eventParts code a b = record { code = code; zero = 0; a = a; b = b }
+abbrev pub event_parts : ℕ → ℕ → ℕ → EventParts
+event_parts code a b = record { code = code; zero = 0; a = a; b = b }
 
 -- the numbers of an event
-unfoldable pub partsOfEvent : Event → EventParts
-partsOfEvent Event.Started = eventParts STARTED 0 0
-partsOfEvent Event.MainFeedOn = eventParts MAINFEEDON 0 0
-partsOfEvent (Event.PowerOn mask) = eventParts POWERON mask 0
-partsOfEvent (Event.PowerOff mask) = eventParts POWEROFF mask 0
-partsOfEvent Event.HoldEnter = eventParts HOLDENTER 0 0
-partsOfEvent Event.HoldExit = eventParts HOLDEXIT 0 0
-partsOfEvent Event.SaaEnter = eventParts SAAENTER 0 0
-partsOfEvent Event.SaaExit = eventParts SAAEXIT 0 0
-partsOfEvent Event.LoadShed = eventParts LOADSHED 0 0
-partsOfEvent Event.NoOp = eventParts NOOP 0 0
-partsOfEvent Event.CalStart = eventParts CALSTART 0 0
-partsOfEvent Event.CalAbort = eventParts CALABORT 0 0
-partsOfEvent Event.CalOther = eventParts CALOTHER 0 0
-partsOfEvent (Event.LpaStart run) = eventParts LPASTART run 0
-partsOfEvent Event.LpaStop = eventParts LPASTOP 0 0
-partsOfEvent Event.LpaOther = eventParts LPAOTHER 0 0
-partsOfEvent (Event.TooStart run dwell) = eventParts TOOSTART run dwell
-partsOfEvent Event.TooAbort = eventParts TOOABORT 0 0
-partsOfEvent (Event.TooExpired armed) = eventParts TOOEXPIRED armed 0
-partsOfEvent (Event.CalStatus good) = eventParts CALSTATUS (flagNumber good) 0
-partsOfEvent Event.CalComplete = eventParts CALCOMPLETE 0 0
-partsOfEvent (Event.LpaStatus good) = eventParts LPASTATUS (flagNumber good) 0
-partsOfEvent Event.LpaComplete = eventParts LPACOMPLETE 0 0
+unfoldable pub parts_of_event : Event → EventParts
+parts_of_event Event.Started = event_parts STARTED 0 0
+parts_of_event Event.MainFeedOn = event_parts MAINFEEDON 0 0
+parts_of_event (Event.PowerOn mask) = event_parts POWERON mask 0
+parts_of_event (Event.PowerOff mask) = event_parts POWEROFF mask 0
+parts_of_event Event.HoldEnter = event_parts HOLDENTER 0 0
+parts_of_event Event.HoldExit = event_parts HOLDEXIT 0 0
+parts_of_event Event.SaaEnter = event_parts SAAENTER 0 0
+parts_of_event Event.SaaExit = event_parts SAAEXIT 0 0
+parts_of_event Event.LoadShed = event_parts LOADSHED 0 0
+parts_of_event Event.NoOp = event_parts NOOP 0 0
+parts_of_event Event.CalStart = event_parts CALSTART 0 0
+parts_of_event Event.CalAbort = event_parts CALABORT 0 0
+parts_of_event Event.CalOther = event_parts CALOTHER 0 0
+parts_of_event (Event.LpaStart run) = event_parts LPASTART run 0
+parts_of_event Event.LpaStop = event_parts LPASTOP 0 0
+parts_of_event Event.LpaOther = event_parts LPAOTHER 0 0
+parts_of_event (Event.TooStart run dwell) = event_parts TOOSTART run dwell
+parts_of_event Event.TooAbort = event_parts TOOABORT 0 0
+parts_of_event (Event.TooExpired armed) = event_parts TOOEXPIRED armed 0
+parts_of_event (Event.CalStatus good) = event_parts CALSTATUS (flag_number good) 0
+parts_of_event Event.CalComplete = event_parts CALCOMPLETE 0 0
+parts_of_event (Event.LpaStatus good) = event_parts LPASTATUS (flag_number good) 0
+parts_of_event Event.LpaComplete = event_parts LPACOMPLETE 0 0
 
-abbrev pub isStarted : Event → Bool
-isStarted e = eqb (partsOfEvent e).code STARTED
+abbrev pub is_started : Event → Bool
+is_started e = eqb (parts_of_event e).code STARTED
 
 -- an event that names neither a nor b
-abbrev pub bareEvent : Event → ℕ → ℕ → FoundEvent
-bareEvent e a b = if eqb a 0 then if eqb b 0 then FoundEvent.Found e else FoundEvent.Unknown else FoundEvent.Unknown
+abbrev pub bare_event : Event → ℕ → ℕ → FoundEvent
+bare_event e a b = if eqb a 0 then if eqb b 0 then FoundEvent.Found e else FoundEvent.Unknown else FoundEvent.Unknown
 
 -- an event that names a alone, and takes any
-abbrev pub singleEvent : Event → ℕ → FoundEvent
-singleEvent e b = if eqb b 0 then FoundEvent.Found e else FoundEvent.Unknown
+abbrev pub single_event : Event → ℕ → FoundEvent
+single_event e b = if eqb b 0 then FoundEvent.Found e else FoundEvent.Unknown
 
 -- an event whose a says whether the report is good
-abbrev pub reportEvent : Event → Event → FoundFlag → ℕ → FoundEvent
-reportEvent failed good (FoundFlag.Found isGood) b = singleEvent (if isGood then good else failed) b
-reportEvent failed good FoundFlag.Unknown b = FoundEvent.Unknown
+abbrev pub report_event : Event → Event → FoundFlag → ℕ → FoundEvent
+report_event failed good (FoundFlag.Found is_good) b = single_event (if is_good then good else failed) b
+report_event failed good FoundFlag.Unknown b = FoundEvent.Unknown
 
-abbrev pub eventRows : ℕ → ℕ → List (ℕ × FoundEvent)
-eventRows a b =
-    (STARTED, bareEvent Event.Started a b)
-    ∷ (MAINFEEDON, bareEvent Event.MainFeedOn a b)
-    ∷ (POWERON, singleEvent (Event.PowerOn a) b)
-    ∷ (POWEROFF, singleEvent (Event.PowerOff a) b)
-    ∷ (HOLDENTER, bareEvent Event.HoldEnter a b)
-    ∷ (HOLDEXIT, bareEvent Event.HoldExit a b)
-    ∷ (SAAENTER, bareEvent Event.SaaEnter a b)
-    ∷ (SAAEXIT, bareEvent Event.SaaExit a b)
-    ∷ (LOADSHED, bareEvent Event.LoadShed a b)
-    ∷ (NOOP, bareEvent Event.NoOp a b)
-    ∷ (CALSTART, bareEvent Event.CalStart a b)
-    ∷ (CALABORT, bareEvent Event.CalAbort a b)
-    ∷ (CALOTHER, bareEvent Event.CalOther a b)
-    ∷ (LPASTART, singleEvent (Event.LpaStart a) b)
-    ∷ (LPASTOP, bareEvent Event.LpaStop a b)
-    ∷ (LPAOTHER, bareEvent Event.LpaOther a b)
+abbrev pub event_rows : ℕ → ℕ → List (ℕ × FoundEvent)
+event_rows a b =
+    (STARTED, bare_event Event.Started a b)
+    ∷ (MAINFEEDON, bare_event Event.MainFeedOn a b)
+    ∷ (POWERON, single_event (Event.PowerOn a) b)
+    ∷ (POWEROFF, single_event (Event.PowerOff a) b)
+    ∷ (HOLDENTER, bare_event Event.HoldEnter a b)
+    ∷ (HOLDEXIT, bare_event Event.HoldExit a b)
+    ∷ (SAAENTER, bare_event Event.SaaEnter a b)
+    ∷ (SAAEXIT, bare_event Event.SaaExit a b)
+    ∷ (LOADSHED, bare_event Event.LoadShed a b)
+    ∷ (NOOP, bare_event Event.NoOp a b)
+    ∷ (CALSTART, bare_event Event.CalStart a b)
+    ∷ (CALABORT, bare_event Event.CalAbort a b)
+    ∷ (CALOTHER, bare_event Event.CalOther a b)
+    ∷ (LPASTART, single_event (Event.LpaStart a) b)
+    ∷ (LPASTOP, bare_event Event.LpaStop a b)
+    ∷ (LPAOTHER, bare_event Event.LpaOther a b)
     ∷ (TOOSTART, FoundEvent.Found (Event.TooStart a b))
-    ∷ (TOOABORT, bareEvent Event.TooAbort a b)
-    ∷ (TOOEXPIRED, singleEvent (Event.TooExpired a) b)
-    ∷ (CALSTATUS, reportEvent (Event.CalStatus false) (Event.CalStatus true) (flagOf a) b)
-    ∷ (CALCOMPLETE, bareEvent Event.CalComplete a b)
-    ∷ (LPASTATUS, reportEvent (Event.LpaStatus false) (Event.LpaStatus true) (flagOf a) b)
-    ∷ (LPACOMPLETE, bareEvent Event.LpaComplete a b)
+    ∷ (TOOABORT, bare_event Event.TooAbort a b)
+    ∷ (TOOEXPIRED, single_event (Event.TooExpired a) b)
+    ∷ (CALSTATUS, report_event (Event.CalStatus false) (Event.CalStatus true) (flag_of a) b)
+    ∷ (CALCOMPLETE, bare_event Event.CalComplete a b)
+    ∷ (LPASTATUS, report_event (Event.LpaStatus false) (Event.LpaStatus true) (flag_of a) b)
+    ∷ (LPACOMPLETE, bare_event Event.LpaComplete a b)
     ∷ []
 
 -- the event of four numbers
-unfoldable pub eventOf : EventParts → FoundEvent
-eventOf p =
-    if eqb p.zero 0 then select p.code (eventRows p.a p.b) FoundEvent.Unknown else FoundEvent.Unknown
+unfoldable pub event_of : EventParts → FoundEvent
+event_of p =
+    if eqb p.zero 0 then select p.code (event_rows p.a p.b) FoundEvent.Unknown else FoundEvent.Unknown

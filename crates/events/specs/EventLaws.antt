@@ -5,72 +5,72 @@ use Rattle.std.specs.Prelude.{ℕ, ◌^◌, ◌<◌, Bool, true, false, ◌≡�
 use Rattle.std.proofs.Math.Path.{refl}
 use Rattle.std.proofs.Common.{arith, eqb-true, ltb-true}
 use Rattle.kinds.specs.Choice.{if◌then◌else◌, select}
-use Rattle.kinds.specs.ChoiceLaws.{chosen, ◌and◌, EachRow, select-holds, select-listed, numbered-holds}
-use Rattle.kinds.specs.Kinds.{flagNumber, flags, flagOf}
-use Rattle.events.specs.Event.{eventParts, partsOfEvent, bareEvent, singleEvent, reportEvent, eventRows, eventOf}
+use Rattle.kinds.specs.ChoiceLaws.{chosen, ◌and◌, EachRow, select_holds, select_listed, numbered_holds}
+use Rattle.kinds.specs.Kinds.{flag_number, flags, flag_of}
+use Rattle.events.specs.Event.{event_parts, parts_of_event, bare_event, single_event, report_event, event_rows, event_of}
 use Rattle.kinds.specs.declared.flag.FoundFlag.{FoundFlag}
 use Rattle.events.specs.declared.Event.{Event}
 use Rattle.events.specs.declared.EventParts.{EventParts}
 use Rattle.events.specs.declared.FoundEvent.{FoundEvent}
 
-pub event-back : (e : Event) → eventOf (partsOfEvent e) ≡ FoundEvent.Found e
-unfolding eventOf partsOfEvent
-event-back Event.Started = refl
-event-back Event.MainFeedOn = refl
-event-back (Event.PowerOn mask) = refl
-event-back (Event.PowerOff mask) = refl
-event-back Event.HoldEnter = refl
-event-back Event.HoldExit = refl
-event-back Event.SaaEnter = refl
-event-back Event.SaaExit = refl
-event-back Event.LoadShed = refl
-event-back Event.NoOp = refl
-event-back Event.CalStart = refl
-event-back Event.CalAbort = refl
-event-back Event.CalOther = refl
-event-back (Event.LpaStart run) = refl
-event-back Event.LpaStop = refl
-event-back Event.LpaOther = refl
-event-back (Event.TooStart run dwell) = refl
-event-back Event.TooAbort = refl
-event-back (Event.TooExpired armed) = refl
-event-back (Event.CalStatus true) = refl
-event-back (Event.CalStatus false) = refl
-event-back Event.CalComplete = refl
-event-back (Event.LpaStatus true) = refl
-event-back (Event.LpaStatus false) = refl
-event-back Event.LpaComplete = refl
+pub event_back : (e : Event) → event_of (parts_of_event e) ≡ FoundEvent.Found e
+unfolding event_of parts_of_event
+event_back Event.Started = refl
+event_back Event.MainFeedOn = refl
+event_back (Event.PowerOn mask) = refl
+event_back (Event.PowerOff mask) = refl
+event_back Event.HoldEnter = refl
+event_back Event.HoldExit = refl
+event_back Event.SaaEnter = refl
+event_back Event.SaaExit = refl
+event_back Event.LoadShed = refl
+event_back Event.NoOp = refl
+event_back Event.CalStart = refl
+event_back Event.CalAbort = refl
+event_back Event.CalOther = refl
+event_back (Event.LpaStart run) = refl
+event_back Event.LpaStop = refl
+event_back Event.LpaOther = refl
+event_back (Event.TooStart run dwell) = refl
+event_back Event.TooAbort = refl
+event_back (Event.TooExpired armed) = refl
+event_back (Event.CalStatus true) = refl
+event_back (Event.CalStatus false) = refl
+event_back Event.CalComplete = refl
+event_back (Event.LpaStatus true) = refl
+event_back (Event.LpaStatus false) = refl
+event_back Event.LpaComplete = refl
 
 -- what is found, if anything is, has these numbers
 abbrev HasParts : EventParts → FoundEvent → Type 0
-HasParts p (FoundEvent.Found e) = partsOfEvent e ≡ p
+HasParts p (FoundEvent.Found e) = parts_of_event e ≡ p
 HasParts p FoundEvent.Unknown = Unit {0}
 
 -- the shapes of the table's rows, and its rows
 module _ (a b : ℕ) where
   abbrev Row : ℕ → FoundEvent → Type 0
-  Row code found = HasParts (eventParts code a b) found
+  Row code found = HasParts (event_parts code a b) found
 
-  single : {code : ℕ} (e : Event) → partsOfEvent e ≡ eventParts code a 0 → Row code (singleEvent e b)
+  single : {code : ℕ} (e : Event) → parts_of_event e ≡ event_parts code a 0 → Row code (single_event e b)
   single {code} e parts = chosen (Row code) (eqb b 0) (FoundEvent.Found e) FoundEvent.Unknown (λ t. rw (eqb-true b 0 t) parts) tt
 
-  bare : {code : ℕ} (e : Event) → partsOfEvent e ≡ eventParts code 0 0 → Row code (bareEvent e a b)
+  bare : {code : ℕ} (e : Event) → parts_of_event e ≡ event_parts code 0 0 → Row code (bare_event e a b)
   bare {code} e parts =
-      chosen (Row code) (eqb a 0) (singleEvent e b) FoundEvent.Unknown (λ t. single e (rw (eqb-true a 0 t) parts)) tt
+      chosen (Row code) (eqb a 0) (single_event e b) FoundEvent.Unknown (λ t. single e (rw (eqb-true a 0 t) parts)) tt
 
-  report : {code : ℕ} (made : Bool → Event) → ((good : Bool) → partsOfEvent (made good) ≡ eventParts code (flagNumber good) 0)
-      → Row code (reportEvent (made false) (made true) (flagOf a) b)
+  report : {code : ℕ} (made : Bool → Event) → ((good : Bool) → parts_of_event (made good) ≡ event_parts code (flag_number good) 0)
+      → Row code (report_event (made false) (made true) (flag_of a) b)
   report {code} made parts =
-      numbered-holds (λ (f : FoundFlag). Row code (reportEvent (made false) (made true) f b))
-      flagNumber FoundFlag.Found FoundFlag.Unknown flags a told tt
+      numbered_holds (λ (f : FoundFlag). Row code (report_event (made false) (made true) f b))
+      flag_number FoundFlag.Found FoundFlag.Unknown flags a told tt
     where
-      told : (good : Bool) → flagNumber good ≡ a → Row code (singleEvent (if good then made true else made false) b)
+      told : (good : Bool) → flag_number good ≡ a → Row code (single_event (if good then made true else made false) b)
       told true e = single (made true) (rw (← e) (parts true))
       told false e = single (made false) (rw (← e) (parts false))
 
-  rows-parts : EachRow Row (eventRows a b)
-  unfolding partsOfEvent
-  rows-parts =
+  rows_parts : EachRow Row (event_rows a b)
+  unfolding parts_of_event
+  rows_parts =
       bare Event.Started refl
       and bare Event.MainFeedOn refl
       and single (Event.PowerOn a) refl
@@ -96,39 +96,39 @@ module _ (a b : ℕ) where
       and bare Event.LpaComplete refl
       and tt
 
-  selected-parts : (code : ℕ) → Row code (select code (eventRows a b) FoundEvent.Unknown)
-  selected-parts code = select-holds Row code (eventRows a b) FoundEvent.Unknown rows-parts tt
+  selected_parts : (code : ℕ) → Row code (select code (event_rows a b) FoundEvent.Unknown)
+  selected_parts code = select_holds Row code (event_rows a b) FoundEvent.Unknown rows_parts tt
 
-parts_whole : (p : EventParts) → p.zero ≡ 0 → p ≡ eventParts p.code p.a p.b
+parts_whole : (p : EventParts) → p.zero ≡ 0 → p ≡ event_parts p.code p.a p.b
 parts_whole p none = λ i. record { code = p.code; zero = none i; a = p.a; b = p.b }
 
-found-parts : (p : EventParts) → HasParts p (eventOf p)
-unfolding eventOf
-found-parts p =
-    chosen (HasParts p) (eqb p.zero 0) (select p.code (eventRows p.a p.b) FoundEvent.Unknown) FoundEvent.Unknown
-    (λ t. rw (parts_whole p (eqb-true p.zero 0 t)) (selected-parts p.a p.b p.code)) tt
+found_parts : (p : EventParts) → HasParts p (event_of p)
+unfolding event_of
+found_parts p =
+    chosen (HasParts p) (eqb p.zero 0) (select p.code (event_rows p.a p.b) FoundEvent.Unknown) FoundEvent.Unknown
+    (λ t. rw (parts_whole p (eqb-true p.zero 0 t)) (selected_parts p.a p.b p.code)) tt
 
-pub event-parts : (p : EventParts) (e : Event) → eventOf p ≡ FoundEvent.Found e → partsOfEvent e ≡ p
-event-parts p e found = rw found at (found-parts p)
+pub event_parts_lem : (p : EventParts) (e : Event) → event_of p ≡ FoundEvent.Found e → parts_of_event e ≡ p
+event_parts_lem p e found = rw found at (found_parts p)
 
 -- what the code and the zero field of an event can be
-unknown-found : (e : Event) → FoundEvent.Unknown ≡ FoundEvent.Found e → ⊥
-unknown-found e p = let z : ◌≡◌ {A = ℕ} 0 1 = cc in omega arith
+unknown_found : (e : Event) → FoundEvent.Unknown ≡ FoundEvent.Found e → ⊥
+unknown_found e p = let z : ◌≡◌ {A = ℕ} 0 1 = cc in omega arith
 
-found-fits : (p : EventParts) (e : Event) → eventOf p ≡ FoundEvent.Found e → (p.code < 2 ^ 16) × (p.zero ≡ 0)
-unfolding eventOf
-found-fits p e =
+found_fits : (p : EventParts) (e : Event) → event_of p ≡ FoundEvent.Found e → (p.code < 2 ^ 16) × (p.zero ≡ 0)
+unfolding event_of
+found_fits p e =
     chosen (λ (f : FoundEvent). f ≡ FoundEvent.Found e → (p.code < 2 ^ 16) × (p.zero ≡ 0)) (eqb p.zero 0)
-    (select p.code (eventRows p.a p.b) FoundEvent.Unknown) FoundEvent.Unknown
+    (select p.code (event_rows p.a p.b) FoundEvent.Unknown) FoundEvent.Unknown
     (λ t found. (
       ltb-true p.code (2 ^ 16)
-          (select-listed (λ n. ltb n (2 ^ 16)) p.code (eventRows p.a p.b) FoundEvent.Unknown (FoundEvent.Found e) refl (unknown-found e) found),
+          (select_listed (λ n. ltb n (2 ^ 16)) p.code (event_rows p.a p.b) FoundEvent.Unknown (FoundEvent.Found e) refl (unknown_found e) found),
       eqb-true p.zero 0 t,
     ))
-    (λ none. absurd (unknown-found e none))
+    (λ none. absurd (unknown_found e none))
 
-pub event-code-fits : (e : Event) → (partsOfEvent e).code < 2 ^ 16
-event-code-fits e = (found-fits (partsOfEvent e) e (event-back e)).0
+pub event_code-fits : (e : Event) → (parts_of_event e).code < 2 ^ 16
+event_code-fits e = (found_fits (parts_of_event e) e (event_back e)).0
 
-pub event-zero : (e : Event) → (partsOfEvent e).zero ≡ 0
-event-zero e = (found-fits (partsOfEvent e) e (event-back e)).1
+pub event-zero : (e : Event) → (parts_of_event e).zero ≡ 0
+event-zero e = (found_fits (parts_of_event e) e (event_back e)).1

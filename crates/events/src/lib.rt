@@ -1,7 +1,7 @@
 // The events that the manager takes, their codes and their numbers (Events).
 ghost use Rattle.std.specs.Prelude.{◌≡◌};
-ghost use Rattle.events.specs.Event.{isStarted, partsOfEvent, eventOf, eventParts, bareEvent, singleEvent, reportEvent};
-ghost use Rattle.kinds.specs.Kinds.{flagOf};
+ghost use Rattle.events.specs.Event.{is_started, parts_of_event, event_of, event_parts, bare_event, single_event, report_event};
+ghost use Rattle.kinds.specs.Kinds.{flag_of};
 
 use kinds::flag;
 use kinds::flag::FoundFlag;
@@ -96,7 +96,7 @@ impl Event {
     pub const LPACOMPLETE: u16 = 23;
 
     pub fn taken_apart(self) -> EventParts
-        ensures { result ≡ partsOfEvent self }
+        ensures { result ≡ parts_of_event self }
     {
         match self {
             Event::Started => put_together(Event::STARTED, 0, 0),
@@ -126,7 +126,7 @@ impl Event {
     }
 
     pub fn of(parts: EventParts) -> FoundEvent
-        ensures { result ≡ eventOf parts }
+        ensures { result ≡ event_of parts }
     {
         let code = parts.code;
         let a = parts.a;
@@ -174,14 +174,14 @@ impl Event {
 
     // The one event that is heard in BOOT.
     pub fn is_started(self) -> bool
-        ensures { result ≡ isStarted self }
+        ensures { result ≡ is_started self }
     {
         self.taken_apart().code == Event::STARTED
     }
 }
 
 fn put_together(code: u16, a: u32, b: u32) -> EventParts
-    ensures { result ≡ eventParts code a b }
+    ensures { result ≡ event_parts code a b }
 {
     EventParts {
         code,
@@ -192,7 +192,7 @@ fn put_together(code: u16, a: u32, b: u32) -> EventParts
 }
 
 fn bare(event: Event, a: u32, b: u32) -> FoundEvent
-    ensures { result ≡ bareEvent event a b }
+    ensures { result ≡ bare_event event a b }
 {
     if a == 0 {
         single(event, b)
@@ -202,7 +202,7 @@ fn bare(event: Event, a: u32, b: u32) -> FoundEvent
 }
 
 fn single(event: Event, b: u32) -> FoundEvent
-    ensures { result ≡ singleEvent event b }
+    ensures { result ≡ single_event event b }
 {
     if b == 0 {
         FoundEvent::Found(event)
@@ -213,7 +213,7 @@ fn single(event: Event, b: u32) -> FoundEvent
 
 // A task's report: a says whether it is good.
 fn report(failed: Event, good: Event, a: u32, b: u32) -> FoundEvent
-    ensures { result ≡ reportEvent failed good (flagOf a) b }
+    ensures { result ≡ report_event failed good (flag_of a) b }
 {
     let FoundFlag::Found(is_good) = flag::of(a) else {
         return FoundEvent::Unknown;

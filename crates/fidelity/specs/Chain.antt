@@ -2,21 +2,21 @@
 -- from the state before it to the state after it, and that is a state of the manager's, under its number.
 -- Assumes nothing.
 use Rattle.std.specs.Prelude.{ℕ, ◌+◌, true, List, [], ◌∷◌, ◌≡◌}
-use Rattle.kinds.specs.Kinds.{LAST-NUMBER}
+use Rattle.kinds.specs.Kinds.{last_number}
 use Rattle.state.specs.declared.State.{State}
 use Rattle.blocks.specs.Block.{intact, head_of}
-use Rattle.reader.specs.Content.{contentOf}
+use Rattle.reader.specs.Content.{content_of}
 use Rattle.reader.specs.declared.content.Content.{Content}
-use Rattle.fidelity.specs.Pass.{At, lastIn}
+use Rattle.fidelity.specs.Pass.{At, last_in}
 
 -- block n of this log, between two states
 pub record Link (number n : ℕ) (s : State) (b : List ℕ) (t : State) : Type 0 where
   pub whole : intact b ≡ true
   pub log : (head_of b).number ≡ number
   pub turn : (head_of b).block ≡ n
-  pub earlier : (head_of b).block ≡ LAST-NUMBER → ⊥
-  pub content : contentOf s b ≡ Content.Right t
-  pub last : lastIn b ≡ t.count
+  pub earlier : (head_of b).block ≡ last_number → ⊥
+  pub content : content_of s b ≡ Content.Right t
+  pub last : last_in b ≡ t.count
 
 -- blocks from number n on, from one state to another
 abbrev pub Chain : ℕ → List State → ℕ → State → List (List ℕ) → State → Type 0

@@ -12,7 +12,7 @@
 --          fresh state if there are none: complete.
 -- The operations and the delivery are any, so each of the three holds at every moment.
 --
--- `run_of` and `groundOf` are folds of `managerStep`, `managerFlush` and `read_of`, the definitions that the contracts of `manager::step`,
+-- `run_of` and `ground_of` are folds of `manager_step`, `manager_flush` and `read_of`, the definitions that the contracts of `manager::step`,
 -- `manager::flush` and `reader::read` cite: what is said here is said of the code. Their words stand in Pass. It is proved in Proof;
 -- RunLaws proves besides that state n of a run is one in which n events are counted (run-numbered).
 --
@@ -22,8 +22,8 @@
 -- number that no manager wrote, and the reader will take it. Nothing is assumed of how many events or blocks there are.
 use Rattle.std.specs.Prelude.{ℕ, ◌^◌, ◌<◌, true, ◌↔◌, ◌≡◌}
 use mathlib.Core.List.{List, Sublistᴰ}
-use Rattle.reader.specs.Reader.{isBehind}
-use Rattle.fidelity.specs.Pass.{Operation, EventBytes, Run, run_of, At, lastEvent, Delivery, Ground, groundOf, Missed}
+use Rattle.reader.specs.Reader.{is_behind}
+use Rattle.fidelity.specs.Pass.{Operation, EventBytes, Run, run_of, At, last_event, Delivery, Ground, ground_of, Missed}
 
 module _ (run : Run) (delivered : List (List ℕ)) (ground : Ground) where
   -- what is shown: the state, under the number of the event after which the manager had it
@@ -32,12 +32,12 @@ module _ (run : Run) (delivered : List (List ℕ)) (ground : Ground) where
 
   pub record Faithful : Type 0 where
     pub shown : ShownAt ground.reader.state.count
-    pub behind : (isBehind ground.reader ≡ true) ↔ Missed run.blocks delivered ground.applied
-    pub complete : Sublistᴰ run.blocks delivered → ShownAt (lastEvent run.blocks)
+    pub behind : (is_behind ground.reader ≡ true) ↔ Missed run.blocks delivered ground.applied
+    pub complete : Sublistᴰ run.blocks delivered → ShownAt (last_event run.blocks)
 
 abbrev pub Fidelity : Type 0
 Fidelity =
     (number : ℕ) → number < 2 ^ 32
     → (operations : List Operation) → EventBytes operations
     → (delivered : List (List ℕ)) → Delivery number (run_of number operations).blocks delivered
-    → Faithful (run_of number operations) delivered (groundOf number delivered)
+    → Faithful (run_of number operations) delivered (ground_of number delivered)

@@ -4,22 +4,22 @@
 --
 -- Of the rules: script-form, records-no-status, records-length, script-range, script-fits, next-count, next-sound, ruling-sized,
 -- ruling-state, ruling-used, ruling-bytes.
--- Of the state: one-more-below; effect-count (no record but STATUS changes the count). Opened: `rebooted`, that fresh has count 0, and `partsOfRecord`
+-- Of the state: one-more-below; effect-count (no record but STATUS changes the count). Opened: `rebooted`, that fresh has count 0, and `parts_of_record`
 -- at STATUS, that v is the event's number.
 -- Of the layouts and blocks: event-fits (an event that is read from bytes has 32-bit numbers); record-read, record-bytes-length, records-bytes-append; head-length,
--- checked-length, block-intact, block-head; intact-length, intact-check, intact-other-length, intact-wrong-check. Opened: `blockBytes`,
--- `checkedBytes`, `zerosBetween`.
+-- checked-length, block-intact, block-head; intact-length, intact-check, intact-other-length, intact-wrong-check. Opened: `block_bytes`,
+-- `checked_bytes`, `zeros_between`.
 -- Of the reader: its table row by row (read-damaged, read-other-log, read-already, read-gap, read-in-turn), fresh-sound, read-sound,
--- content-read. Opened: `wentBy`, `wentClosed`, `reads`.
+-- content-read. Opened: `went_by`, `went_closed`, `reads`.
 -- Of the manager: which case a step and a flush come to (step-cases, flush-cases), and what its own test of soundness tells (state-sound,
 -- log-clauses, used-before). Opened: nothing.
 -- Assumes nothing.
 use Rattle.std.specs.Prelude.{◌+◌, ◌*◌, ◌<◌, true, List, [], ◌∷◌, ◌++◌, ◌≡◌, length, take}
 use Rattle.kinds.specs.Choice.{every}
 use Rattle.kinds.specs.declared.status.Status.{Status}
-use Rattle.records.specs.Record.{MOST-RECORDS, notStatus, recordInRange, vFits}
+use Rattle.records.specs.Record.{most_records, not_status, record_in_range, v_fits}
 use Rattle.records.specs.declared.Record.{Record}
-use Rattle.layout.specs.Record.{RECORD, recordsBytes}
+use Rattle.layout.specs.Record.{RECORD, records_bytes}
 use Rattle.soundness.specs.Sound.{sound}
 use Rattle.state.specs.Effect.{effects}
 use Rattle.state.specs.declared.State.{State}
@@ -34,13 +34,13 @@ whole s actions status = actions ++ Record.Status status (s.count + 1) ∷ []
 pub record Ruled (s : State) (d : Draft) : Type 0 where
   pub actions : List Record
   pub status : Status
-  pub quiet : every notStatus actions ≡ true
-  pub few : length actions < MOST-RECORDS
-  pub range : every recordInRange (whole s actions status) ≡ true
-  pub fit : every vFits (whole s actions status) ≡ true
+  pub quiet : every not_status actions ≡ true
+  pub few : length actions < most_records
+  pub range : every record_in_range (whole s actions status) ≡ true
+  pub fit : every v_fits (whole s actions status) ≡ true
   pub sound : sound (effects s (whole s actions status)) ≡ true
   pub number : (effects s (whole s actions status)).count ≡ s.count + 1
   pub state : d.state ≡ effects s (whole s actions status)
   pub used : d.used ≡ length (whole s actions status)
-  pub bytes : take (RECORD * d.used) d.bytes ≡ recordsBytes (whole s actions status)
+  pub bytes : take (RECORD * d.used) d.bytes ≡ records_bytes (whole s actions status)
   pub long : length d.bytes ≡ ROOM

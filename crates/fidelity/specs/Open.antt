@@ -3,8 +3,8 @@
 -- Assumes nothing.
 use Rattle.std.specs.Prelude.{ℕ, ◌*◌, true, List, [], ◌∷◌, ◌++◌, ◌⊎◌, ◌≡◌, length, take}
 use Rattle.kinds.specs.Choice.{every}
-use Rattle.records.specs.Record.{recordInRange, vFits}
-use Rattle.layout.specs.Record.{recordsBytes}
+use Rattle.records.specs.Record.{record_in_range, v_fits}
+use Rattle.layout.specs.Record.{records_bytes}
 use Rattle.state.specs.declared.State.{State}
 use Rattle.kinds.specs.declared.status.Status.{Status}
 use Rattle.records.specs.declared.Record.{Record}
@@ -21,10 +21,10 @@ Ends n rs = (rs ≡ []) ⊎ ((front : List Record) × (x : Status) × (rs ≡ fr
 pub record Open (s : State) (h : Head) (records : List ℕ) (t : State) : Type 0 where
   pub logged : List Record
   pub full : length records ≡ RECORDS
-  pub stand : take (RECORD * length logged) records ≡ recordsBytes logged
+  pub stand : take (RECORD * length logged) records ≡ records_bytes logged
   pub used : h.used ≡ length logged
-  pub range : every recordInRange logged ≡ true
-  pub fit : every vFits logged ≡ true
+  pub range : every record_in_range logged ≡ true
+  pub fit : every v_fits logged ≡ true
   pub before : h.before ≡ s.count
   pub leads : replay 0 s logged ≡ Content.Right t
   pub ends : Ends t.count logged

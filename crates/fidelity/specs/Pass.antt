@@ -4,18 +4,18 @@
 -- Assumes nothing.
 use Rattle.std.specs.Prelude.{ℕ, zero, suc, ◌+◌, ◌-◌, ◌*◌, Bool, true, false, ◌⊎◌, ◌≡◌, length, take, eqb}
 use mathlib.Core.List.{List, [], ◌∷◌, ◌++◌, Memᴰ}
-use Rattle.frame_check.specs.Check.{checkOf}
+use Rattle.frame_check.specs.Check.{check_of}
 use Rattle.kinds.specs.Choice.{if◌then◌else◌}
 use Rattle.state.specs.State.{fresh}
-use Rattle.records.specs.Record.{partsOfRecord}
+use Rattle.records.specs.Record.{parts_of_record}
 use Rattle.state.specs.declared.State.{State}
 use Rattle.records.specs.declared.Reading.{Reading}
-use Rattle.layout.specs.Bytes.{AreBytes, u16At}
-use Rattle.blocks.specs.Block.{RECORDS-AT, CHECK-AT, BLOCK, head_of}
-use Rattle.layout.specs.Record.{RECORD, readRecord}
-use Rattle.manager.specs.Manager.{Outcome, freshManager, isLogged, managerStep, managerFlush, answeredOf}
+use Rattle.layout.specs.Bytes.{AreBytes, u16_at}
+use Rattle.blocks.specs.Block.{records_at, check_at, BLOCK, head_of}
+use Rattle.layout.specs.Record.{RECORD, read_record}
+use Rattle.manager.specs.Manager.{Outcome, fresh_manager, is_logged, manager_step, manager_flush, answered_of}
 use Rattle.manager.specs.declared.Manager.{Manager}
-use Rattle.reader.specs.Reader.{freshReader, read_of, replyNumber}
+use Rattle.reader.specs.Reader.{fresh_reader, read_of, reply_number}
 use Rattle.reader.specs.declared.reader.Reader.{Reader}
 use Rattle.reader.specs.declared.reply.Read.{Read}
 
@@ -39,36 +39,36 @@ pub record Run : Type 0 where
   pub states : List State
   pub blocks : List (List ℕ)
 
-abbrev pub freshRun : ℕ → Run
-freshRun number = record { manager = freshManager number; states = fresh ∷ []; blocks = [] }
+abbrev pub fresh_run : ℕ → Run
+fresh_run number = record { manager = fresh_manager number; states = fresh ∷ []; blocks = [] }
 
-abbrev pub withWhen : {A : Type 0} → Bool → List A → A → List A
-withWhen happened xs x = if happened then xs ++ x ∷ [] else xs
+abbrev pub with_when : {A : Type 0} → Bool → List A → A → List A
+with_when happened xs x = if happened then xs ++ x ∷ [] else xs
 
-abbrev pub afterStep : Run → Outcome → Run
-afterStep r o =
+abbrev pub after_step : Run → Outcome → Run
+after_step r o =
     record {
-      manager = (answeredOf o).manager;
-      states = withWhen (isLogged o.answer) r.states o.state;
-      blocks = withWhen o.written r.blocks o.lent;
+      manager = (answered_of o).manager;
+      states = with_when (is_logged o.answer) r.states o.state;
+      blocks = with_when o.written r.blocks o.lent;
     }
 
 -- a flush is no event: it adds no state
-abbrev pub afterFlush : Run → Outcome → Run
-afterFlush r o =
-    record { manager = (answeredOf o).manager; states = r.states; blocks = withWhen o.written r.blocks o.lent }
+abbrev pub after_flush : Run → Outcome → Run
+after_flush r o =
+    record { manager = (answered_of o).manager; states = r.states; blocks = with_when o.written r.blocks o.lent }
 
-abbrev pub afterOne : Run → Operation → Run
-afterOne r (stepping event lent) = afterStep r (managerStep r.manager event lent)
-afterOne r (flushing lent) = afterFlush r (managerFlush r.manager lent)
+abbrev pub after_one : Run → Operation → Run
+after_one r (stepping event lent) = after_step r (manager_step r.manager event lent)
+after_one r (flushing lent) = after_flush r (manager_flush r.manager lent)
 
-abbrev pub afterAll : Run → List Operation → Run
-afterAll r [] = r
-afterAll r (o ∷ os) = afterAll (afterOne r o) os
+abbrev pub after_all : Run → List Operation → Run
+after_all r [] = r
+after_all r (o ∷ os) = after_all (after_one r o) os
 
 -- what a fresh manager with this log number comes to
 unfoldable pub run_of : ℕ → List Operation → Run
-run_of number os = afterAll (freshRun number) os
+run_of number os = after_all (fresh_run number) os
 
 -- "the n-th of these, counted from 0, is there, and is x"
 abbrev pub At : {A : Type 0} → List A → ℕ → A → Type 0
@@ -78,30 +78,30 @@ At (y ∷ ys) (suc n) x = At ys n x
 
 -- the number of the last event in a block: v of its last record, which in a block of a run is the STATUS that closes that event
 -- (`last` in Chain)
-abbrev pub eventNumber : Reading → ℕ
-eventNumber (Reading.Right r) = (partsOfRecord r).v
-eventNumber Reading.WrongCode = 0
-eventNumber Reading.WrongD = 0
-eventNumber Reading.WrongV = 0
+abbrev pub event_number : Reading → ℕ
+event_number (Reading.Right r) = (parts_of_record r).v
+event_number Reading.WrongCode = 0
+event_number Reading.WrongD = 0
+event_number Reading.WrongV = 0
 
-unfoldable pub lastIn : List ℕ → ℕ
-lastIn b = eventNumber (readRecord b (RECORDS-AT + RECORD * ((head_of b).used - 1)))
+unfoldable pub last_in : List ℕ → ℕ
+last_in b = event_number (read_record b (records_at + RECORD * ((head_of b).used - 1)))
 
 -- the number of the last event in some blocks, after event n; 0 stands for the fresh state
-abbrev pub lastAfter : ℕ → List (List ℕ) → ℕ
-lastAfter n [] = n
-lastAfter n (b ∷ bs) = lastAfter (lastIn b) bs
+abbrev pub last_after : ℕ → List (List ℕ) → ℕ
+last_after n [] = n
+last_after n (b ∷ bs) = last_after (last_in b) bs
 
-abbrev pub lastEvent : List (List ℕ) → ℕ
-lastEvent bs = lastAfter 0 bs
+abbrev pub last_event : List (List ℕ) → ℕ
+last_event bs = last_after 0 bs
 
 -- On the way down --------------------------------------------------------------------------------------------------------------
 
 -- a string that is not for the reader of this log, or that no one can read
 pub data Stray (number : ℕ) (b : List ℕ) : Type 0 where
-  another-length : (length b ≡ BLOCK → ⊥) → Stray number b
-  wrong-check : (checkOf (take CHECK-AT b) ≡ u16At b CHECK-AT → ⊥) → Stray number b
-  another-log : ((head_of b).number ≡ number → ⊥) → Stray number b
+  another_length : (length b ≡ BLOCK → ⊥) → Stray number b
+  wrong_check : (check_of (take check_at b) ≡ u16_at b check_at → ⊥) → Stray number b
+  another_log : ((head_of b).number ≡ number → ⊥) → Stray number b
 
 -- each string that is delivered is one of these blocks or a stray; blocks may be lost, repeated and out of order
 abbrev pub Delivery : ℕ → List (List ℕ) → List (List ℕ) → Type 0
@@ -115,23 +115,23 @@ pub record Ground : Type 0 where
   pub reader : Reader
   pub applied : List (List ℕ)
 
-abbrev pub freshGround : ℕ → Ground
-freshGround number = record { reader = freshReader number; applied = [] }
+abbrev pub fresh_ground : ℕ → Ground
+fresh_ground number = record { reader = fresh_reader number; applied = [] }
 
 abbrev pub APPLIED : ℕ
 APPLIED = 0
 
-abbrev pub afterRead : Ground → List ℕ → Read → Ground
-afterRead w b r =
-    record { reader = r.reader; applied = withWhen (eqb (replyNumber r.answer) APPLIED) w.applied b }
+abbrev pub after_read : Ground → List ℕ → Read → Ground
+after_read w b r =
+    record { reader = r.reader; applied = with_when (eqb (reply_number r.answer) APPLIED) w.applied b }
 
 abbrev pub hears : Ground → List (List ℕ) → Ground
 hears w [] = w
-hears w (b ∷ bs) = hears (afterRead w b (read_of w.reader b)) bs
+hears w (b ∷ bs) = hears (after_read w b (read_of w.reader b)) bs
 
 -- what a fresh reader of this log comes to
-unfoldable pub groundOf : ℕ → List (List ℕ) → Ground
-groundOf number bs = hears (freshGround number) bs
+unfoldable pub ground_of : ℕ → List (List ℕ) → Ground
+ground_of number bs = hears (fresh_ground number) bs
 
 -- some block of these was delivered and at none of its deliveries applied
 abbrev pub Missed : List (List ℕ) → List (List ℕ) → List (List ℕ) → Type 0

@@ -3,30 +3,30 @@
 -- Assumes nothing.
 use Rattle.std.specs.Prelude.{ℕ, zero, suc, ◌+◌, ◌^◌, ◌<◌, ◌≤◌, true, false, List, [], ◌∷◌, ◌++◌, ◌⊎◌, ◌≡◌, refl, length}
 use Rattle.std.proofs.Common.{inl, inr, ap, sym, ◌∙◌, zero-add, arith, length-append}
-use Rattle.kinds.specs.Kinds.{LAST-NUMBER}
+use Rattle.kinds.specs.Kinds.{last_number}
 use Rattle.state.specs.State.{fresh, rebooted}
-use Rattle.events.specs.Event.{partsOfEvent}
-use Rattle.records.specs.Record.{MOST-RECORDS}
+use Rattle.events.specs.Event.{parts_of_event}
+use Rattle.records.specs.Record.{most_records}
 use Rattle.state.specs.declared.State.{State}
 use Rattle.kinds.specs.declared.answer.Answer.{Answer}
 use Rattle.events.specs.declared.Event.{Event}
 use Rattle.layout.specs.Bytes.{AreBytes}
-use Rattle.blocks.specs.Block.{USED-MOST, blockBytes}
+use Rattle.blocks.specs.Block.{used_most, block_bytes}
 use Rattle.layout.specs.EventLaws.{event-fits}
 use Rattle.blocks.specs.declared.block.Head.{Head}
 use Rattle.draft.specs.declared.Draft.{Draft}
-use Rattle.rules.specs.Ruling.{rulingOf}
-use Rattle.manager.specs.Log.{blankRecords, recordsWith, headWith, headNext}
-use Rattle.manager.specs.LogLaws.{state-sound, log-clauses}
-use Rattle.manager.specs.Manager.{freshHead, bothSound, isLogged, Outcome, kept, added, turned, managerStep, managerFlush}
-use Rattle.manager.specs.CaseLaws.{Heard, step-cases, flush-cases}
-use Rattle.fidelity.specs.Pass.{Operation, stepping, flushing, EventBytes, Run, freshRun, afterStep, afterFlush, afterAll, run_of, At}
+use Rattle.rules.specs.Ruling.{ruling_of}
+use Rattle.manager.specs.Log.{blank_records, records_with, head_with, head_next}
+use Rattle.manager.specs.LogLaws.{state_sound, log_clauses}
+use Rattle.manager.specs.Manager.{fresh_head, both_sound, is_logged, Outcome, kept, added, turned, manager_step, manager_flush}
+use Rattle.manager.specs.CaseLaws.{Heard, step_cases, flush_cases}
+use Rattle.fidelity.specs.Pass.{Operation, stepping, flushing, EventBytes, Run, fresh_run, after_step, after_flush, after_all, run_of, At}
 use Rattle.fidelity.specs.Interface.{whole, Ruled}
 use Rattle.fidelity.specs.InterfaceLaws.{ruled}
 use Rattle.fidelity.specs.Chain.{Link, Chain}
-use Rattle.fidelity.specs.ChainLaws.{at-longer, at-end, at-cases, chain-longer, chain_more, link_at}
+use Rattle.fidelity.specs.ChainLaws.{at_longer, at_end, at_cases, chain_longer, chain_more, link_at}
 use Rattle.fidelity.specs.Open.{Open}
-use Rattle.fidelity.specs.OpenLaws.{open-blank, open_more, closed-link}
+use Rattle.fidelity.specs.OpenLaws.{open_blank, open_more, closed_link}
 
 -- What is kept -----------------------------------------------------------------------------------------------------------------
 
@@ -35,7 +35,7 @@ pub record Kept (number : ℕ) (r : Run) : Type 0 where
   pub opened : Open base r.manager.head r.manager.records r.manager.state
   pub log : r.manager.head.number ≡ number
   pub blocks : r.manager.head.block ≡ length r.blocks
-  pub most : r.manager.state.count ≤ LAST-NUMBER
+  pub most : r.manager.state.count ≤ last_number
   pub long : length r.states ≡ r.manager.state.count + 1
   pub numbered : (n : ℕ) (s : State) → At r.states n s → s.count ≡ n
   pub first : At r.states fresh.count fresh
@@ -47,12 +47,12 @@ unfolding rebooted
 fresh-numbered zero s e = sym (ap (λ (t : State). t.count) e)
 fresh-numbered (suc n) s e = absurd e
 
-kept_fresh : (number : ℕ) → Kept number (freshRun number)
+kept_fresh : (number : ℕ) → Kept number (fresh_run number)
 unfolding rebooted
 kept_fresh number =
     record {
       base = fresh;
-      opened = open-blank fresh (freshHead number) refl refl;
+      opened = open_blank fresh (fresh_head number) refl refl;
       log = refl;
       blocks = refl;
       most = omega arith;
@@ -75,97 +75,97 @@ records r = r.manager.records
 
 module _ (number : ℕ) (small : number < 2 ^ 32) (r : Run) (k : Kept number r) where
   -- an answer that logs nothing leaves the run as it was
-  kept-refused : (lent : List ℕ) (answer : Answer) → isLogged answer ≡ false
-      → Kept number (afterStep r (kept (now r) (head r) (records r) lent answer))
-  kept-refused lent answer none = rw none k
+  kept_refused : (lent : List ℕ) (answer : Answer) → is_logged answer ≡ false
+      → Kept number (after_step r (kept (now r) (head r) (records r) lent answer))
+  kept_refused lent answer none = rw none k
 
   -- the open block is closed
-  abbrev closedRun : Run
-  closedRun =
+  abbrev closed_run : Run
+  closed_run =
       record {
-        manager = record { state = now r; head = headNext (head r) 0 (now r).count; records = blankRecords };
+        manager = record { state = now r; head = head_next (head r) 0 (now r).count; records = blank_records };
         states = r.states;
-        blocks = r.blocks ++ blockBytes (head r) (records r) ∷ [];
+        blocks = r.blocks ++ block_bytes (head r) (records r) ∷ [];
       }
 
-  module _ (both : bothSound (now r) (head r) (records r) ≡ true) (some : (head r).used ≡ 0 → ⊥) where
-    closed_block : Link number (0 + length r.blocks) k.base (blockBytes (head r) (records r)) (now r)
+  module _ (both : both_sound (now r) (head r) (records r) ≡ true) (some : (head r).used ≡ 0 → ⊥) where
+    closed_block : Link number (0 + length r.blocks) k.base (block_bytes (head r) (records r)) (now r)
     closed_block =
         link_at number (0 + length r.blocks) k.log (k.blocks ∙ sym (zero-add (length r.blocks)))
-        (closed-link k.base (now r) (head r) (records r) k.opened (rw k.log small) some (log-clauses (now r) (head r) (records r) both) k.most)
+        (closed_link k.base (now r) (head r) (records r) k.opened (rw k.log small) some (log_clauses (now r) (head r) (records r) both) k.most)
 
-    kept-closed : Kept number closedRun
-    kept-closed =
+    kept_closed : Kept number closed_run
+    kept_closed =
         record {
           base = now r;
-          opened = open-blank (now r) (headNext (head r) 0 (now r).count) refl refl;
+          opened = open_blank (now r) (head_next (head r) 0 (now r).count) refl refl;
           log = k.log;
-          blocks = ap (λ (n : ℕ). n + 1) k.blocks ∙ sym (length-append r.blocks (blockBytes (head r) (records r) ∷ []));
+          blocks = ap (λ (n : ℕ). n + 1) k.blocks ∙ sym (length-append r.blocks (block_bytes (head r) (records r) ∷ []));
           most = k.most;
           long = k.long;
           numbered = k.numbered;
           first = k.first;
           now = k.now;
           chain =
-              chain_more number r.states 0 fresh r.blocks k.base (now r) (blockBytes (head r) (records r)) k.chain closed_block k.now;
+              chain_more number r.states 0 fresh r.blocks k.base (now r) (block_bytes (head r) (records r)) k.chain closed_block k.now;
         }
 
   -- an event's records go into the open block
-  module _ (d : Draft) (h : Head) (e : Ruled (now r) d) (below : (now r).count < LAST-NUMBER) (room : (head r).used + d.used ≤ USED-MOST)
+  module _ (d : Draft) (h : Head) (e : Ruled (now r) d) (below : (now r).count < last_number) (room : (head r).used + d.used ≤ used_most)
       (log : h.number ≡ (head r).number) (block : h.block ≡ (head r).block) (used : h.used ≡ (head r).used + d.used)
       (before : h.before ≡ (head r).before) where
-    abbrev addedRun : Run
-    addedRun =
+    abbrev added_run : Run
+    added_run =
         record {
-          manager = record { state = d.state; head = h; records = recordsWith (records r) (head r).used d };
+          manager = record { state = d.state; head = h; records = records_with (records r) (head r).used d };
           states = r.states ++ d.state ∷ [];
           blocks = r.blocks;
         }
 
-    count-after : d.state.count ≡ (now r).count + 1
-    count-after = ap (λ (u : State). u.count) e.state ∙ e.number
+    count_after : d.state.count ≡ (now r).count + 1
+    count_after = ap (λ (u : State). u.count) e.state ∙ e.number
 
     numbered-after : (n : ℕ) (s : State) → At r.states n s ⊎ ((n ≡ length r.states) × (d.state ≡ s)) → s.count ≡ n
     numbered-after n s (inl before) = k.numbered n s before
-    numbered-after n s (inr last) = sym (ap (λ (u : State). u.count) last.1) ∙ count-after ∙ sym k.long ∙ sym last.0
+    numbered-after n s (inr last) = sym (ap (λ (u : State). u.count) last.1) ∙ count_after ∙ sym k.long ∙ sym last.0
 
-    kept-added : Kept number addedRun
+    kept-added : Kept number added_run
     kept-added =
         record {
           base = k.base;
           opened = open_more k.base (now r) (head r) h (records r) d k.opened e room used before;
           log = log ∙ k.log;
           blocks = block ∙ k.blocks;
-          most = omega (arith, count-after);
-          long = length-append r.states (d.state ∷ []) ∙ omega (arith, k.long, count-after);
-          numbered = λ n s at. numbered-after n s (at-cases r.states d.state n s at);
-          first = at-longer r.states (d.state ∷ []) fresh.count fresh k.first;
-          now = at-end r.states d.state.count d.state (k.long ∙ sym count-after);
-          chain = chain-longer number r.states (d.state ∷ []) 0 fresh r.blocks k.base k.chain;
+          most = omega (arith, count_after);
+          long = length-append r.states (d.state ∷ []) ∙ omega (arith, k.long, count_after);
+          numbered = λ n s at. numbered-after n s (at_cases r.states d.state n s at);
+          first = at_longer r.states (d.state ∷ []) fresh.count fresh k.first;
+          now = at_end r.states d.state.count d.state (k.long ∙ sym count_after);
+          chain = chain_longer number r.states (d.state ∷ []) 0 fresh r.blocks k.base k.chain;
         }
 
 -- A step and a flush -----------------------------------------------------------------------------------------------------------
 
 module _ (number : ℕ) (small : number < 2 ^ 32) (r : Run) (k : Kept number r) where
-  kept-flush : (lent : List ℕ) → Kept number (afterFlush r (managerFlush r.manager lent))
-  kept-flush lent =
-      flush-cases (now r) (head r) (records r) lent (λ (o : Outcome). Kept number (afterFlush r o)) (λ _ _. k)
-      (λ filled. kept-closed number small r k filled.both filled.some)
+  kept_flush : (lent : List ℕ) → Kept number (after_flush r (manager_flush r.manager lent))
+  kept_flush lent =
+      flush_cases (now r) (head r) (records r) lent (λ (o : Outcome). Kept number (after_flush r o)) (λ _ _. k)
+      (λ filled. kept_closed number small r k filled.both filled.some)
 
   module _ (event lent : List ℕ) (bytes : AreBytes event) where
     abbrev draft : Event → Draft
-    draft e = (rulingOf (now r) e).draft
+    draft e = (ruling_of (now r) e).draft
 
     module _ (e : Event) (heard : Heard (now r) (head r) (records r) lent event e) where
-      below : (now r).count < LAST-NUMBER
+      below : (now r).count < last_number
       below = omega (arith, k.most, heard.below)
 
       ruling : Ruled (now r) (draft e)
       ruling =
-          let fit : ((partsOfEvent e).a < 2 ^ 32) × ((partsOfEvent e).b < 2 ^ 32) = event-fits event e bytes heard.read in
-          ruled (now r) e (state-sound (now r) (head r) (records r) heard.both) below fit.0 fit.1
+          let fit : ((parts_of_event e).a < 2 ^ 32) × ((parts_of_event e).b < 2 ^ 32) = event-fits event e bytes heard.read in
+          ruled (now r) e (state_sound (now r) (head r) (records r) heard.both) below fit.0 fit.1
 
-      few : (draft e).used ≤ MOST-RECORDS
+      few : (draft e).used ≤ most_records
       few =
           omega (
             arith,
@@ -174,39 +174,39 @@ module _ (number : ℕ) (small : number < 2 ^ 32) (r : Run) (k : Kept number r) 
             ruling.few,
           )
 
-      step_added : (head r).used + (draft e).used ≤ USED-MOST
-          → Kept number (afterStep r (added (now r) (head r) (records r) lent (rulingOf (now r) e)))
+      step_added : (head r).used + (draft e).used ≤ used_most
+          → Kept number (after_step r (added (now r) (head r) (records r) lent (ruling_of (now r) e)))
       step_added room =
-          kept-added number small r k (draft e) (headWith (head r) (draft e)) ruling below room refl refl refl refl
+          kept-added number small r k (draft e) (head_with (head r) (draft e)) ruling below room refl refl refl refl
 
-      step-turned : USED-MOST < (head r).used + (draft e).used
-          → Kept number (afterStep r (turned (now r) (head r) (records r) lent (rulingOf (now r) e)))
-      step-turned full =
+      step_turned : used_most < (head r).used + (draft e).used
+          → Kept number (after_step r (turned (now r) (head r) (records r) lent (ruling_of (now r) e)))
+      step_turned full =
           let some : (head r).used ≡ 0 → ⊥ = λ none. omega (arith, few) in
-          kept-added number small (closedRun number small r k) (kept-closed number small r k heard.both some) (draft e)
-          (headNext (head r) (draft e).used (now r).count) ruling below
+          kept-added number small (closed_run number small r k) (kept_closed number small r k heard.both some) (draft e)
+          (head_next (head r) (draft e).used (now r).count) ruling below
           (omega (arith, few)) refl refl (sym (zero-add (draft e).used)) refl
 
-    kept_step : Kept number (afterStep r (managerStep r.manager event lent))
+    kept_step : Kept number (after_step r (manager_step r.manager event lent))
     kept_step =
-        step-cases (now r) (head r) (records r) lent (λ (o : Outcome). Kept number (afterStep r o)) (kept-refused number small r k lent) event
-        step_added step-turned
+        step_cases (now r) (head r) (records r) lent (λ (o : Outcome). Kept number (after_step r o)) (kept_refused number small r k lent) event
+        step_added step_turned
 
 -- Any operations ---------------------------------------------------------------------------------------------------------------
 
 kept-all : (number : ℕ) → number < 2 ^ 32 → (os : List Operation) → EventBytes os → (r : Run) → Kept number r
-    → Kept number (afterAll r os)
+    → Kept number (after_all r os)
 kept-all number small [] bytes r k = k
 kept-all number small (stepping event lent ∷ os) bytes r k =
-    kept-all number small os bytes.1 (afterStep r (managerStep r.manager event lent)) (kept_step number small r k event lent bytes.0)
+    kept-all number small os bytes.1 (after_step r (manager_step r.manager event lent)) (kept_step number small r k event lent bytes.0)
 kept-all number small (flushing lent ∷ os) bytes r k =
-    kept-all number small os bytes (afterFlush r (managerFlush r.manager lent)) (kept-flush number small r k lent)
+    kept-all number small os bytes (after_flush r (manager_flush r.manager lent)) (kept_flush number small r k lent)
 
-pub run-kept : (number : ℕ) → number < 2 ^ 32 → (os : List Operation) → EventBytes os → Kept number (run_of number os)
+pub run_kept : (number : ℕ) → number < 2 ^ 32 → (os : List Operation) → EventBytes os → Kept number (run_of number os)
 unfolding run_of
-run-kept number small os bytes = kept-all number small os bytes (freshRun number) (kept_fresh number)
+run_kept number small os bytes = kept-all number small os bytes (fresh_run number) (kept_fresh number)
 
 -- the states of a run stand under their own numbers: the n-th is one in which n events were counted
-pub run-numbered : (number : ℕ) → number < 2 ^ 32 → (os : List Operation) → EventBytes os → (n : ℕ) (s : State)
+pub run_numbered : (number : ℕ) → number < 2 ^ 32 → (os : List Operation) → EventBytes os → (n : ℕ) (s : State)
     → At (run_of number os).states n s → s.count ≡ n
-run-numbered number small os bytes = (run-kept number small os bytes).numbered
+run_numbered number small os bytes = (run_kept number small os bytes).numbered

@@ -3,7 +3,7 @@
 use Rattle.std.specs.Prelude.{true, false, ◌&&◌, List, [], ◌∷◌, ◌++◌, ◌≡◌, refl, eqb, length}
 use Rattle.kinds.specs.Choice.{every}
 use Rattle.events.specs.declared.Event.{Event}
-use Rattle.fidelity_example.specs.Table.{Case, case, comesOut, ready, worked}
+use Rattle.fidelity_example.specs.Table.{Case, case, comes_out, ready, worked}
 
 -- For Q-1: a calibration that a hold stopped and that has not ended, in QUIESCENT; and then a target that waits for it
 abbrev pub stopping : List Event
@@ -28,6 +28,6 @@ q1 =
     ∷ []
 
 -- there are seven, and all come out
-pub q1-comes-out : (eqb (length q1) 7 && every comesOut q1) ≡ true
+pub q1-comes_out : (eqb (length q1) 7 && every comes_out q1) ≡ true
 unfolding worked
-q1-comes-out = refl
+q1-comes_out = refl

@@ -19,8 +19,8 @@ module _ {A B : Type 0} (number : A → ℕ) (found : A → B) (unknown : B) whe
   past (x ∷ xs) n k p =
       rw (ne_eqb n (number x) (known n (map number xs) (k × (n ≡ number x → ⊥)) p).1) (past xs n (k × (n ≡ number x → ⊥)) p)
 
-  pub numbered-past : (xs : List A) (n : ℕ) → Past n (map number xs) (Unit {0}) → unknown ≡ numbered number found unknown xs n
-  numbered-past xs n p = past xs n (Unit {0}) p
+  pub numbered_past : (xs : List A) (n : ℕ) → Past n (map number xs) (Unit {0}) → unknown ≡ numbered number found unknown xs n
+  numbered_past xs n p = past xs n (Unit {0}) p
 
 module _ {A : Type 0} (other : A) where
   beyond : (rows : List (ℕ × A)) (n : ℕ) (k : Type 0) → Past n (map (λ row. row.0) rows) k → other ≡ select n rows other
@@ -28,5 +28,5 @@ module _ {A : Type 0} (other : A) where
   beyond (row ∷ rows) n k p =
       rw (ne_eqb n row.0 (known n (map (λ row. row.0) rows) (k × (n ≡ row.0 → ⊥)) p).1) (beyond rows n (k × (n ≡ row.0 → ⊥)) p)
 
-  pub select-past : (rows : List (ℕ × A)) (n : ℕ) → Past n (map (λ row. row.0) rows) (Unit {0}) → other ≡ select n rows other
-  select-past rows n p = beyond rows n (Unit {0}) p
+  pub select_past : (rows : List (ℕ × A)) (n : ℕ) → Past n (map (λ row. row.0) rows) (Unit {0}) → other ≡ select n rows other
+  select_past rows n p = beyond rows n (Unit {0}) p

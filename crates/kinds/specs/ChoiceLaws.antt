@@ -13,10 +13,10 @@ chosen P true a b p q = p refl
 chosen P false a b p q = q
 
 -- the same, of a second choice that holds where it is taken
-pub chosen-either : {A : Type 0} (P : A → Type 0) (test : Bool) (a b : A)
+pub chosen_either : {A : Type 0} (P : A → Type 0) (test : Bool) (a b : A)
     → (test ≡ true → P a) → (test ≡ false → P b) → P (if test then a else b)
-chosen-either P true a b p q = p refl
-chosen-either P false a b p q = q refl
+chosen_either P true a b p q = p refl
+chosen_either P false a b p q = q refl
 
 pub if-same : {A : Type 0} (test : Bool) (a : A) → (if test then a else a) ≡ a
 if-same true a = refl
@@ -46,22 +46,22 @@ module _ {A : Type 0} (test : A → Bool) where
   every-if true xs ys = refl
   every-if false xs ys = refl
 
-  pub every-both : (xs ys : List A) → every test xs ≡ true → every test ys ≡ true → every test (xs ++ ys) ≡ true
-  every-both xs ys all more = rw (every_append xs ys, all, more)
+  pub every_both : (xs ys : List A) → every test xs ≡ true → every test ys ≡ true → every test (xs ++ ys) ≡ true
+  every_both xs ys all more = rw (every_append xs ys, all, more)
 
 -- a test of each, pushed through what joins lists and what chooses between them; where both choices pass, no choice is left
-pub ruleset every-through = (every_append, every-if)
+pub ruleset every_through = (every_append, every-if)
 
-pub ruleset every-pushed = (every-through, if-same)
+pub ruleset every_pushed = (every_through, if-same)
 
 -- where each passes one test, none passes another that goes against it
-pub every-none : {A : Type 0} (test against : A → Bool) → ((x : A) → test x ≡ true → against x ≡ false)
+pub every_none : {A : Type 0} (test against : A → Bool) → ((x : A) → test x ≡ true → against x ≡ false)
     → (xs : List A) → every test xs ≡ true → some against xs ≡ false
-every-none test against apart [] all = refl
-every-none test against apart (x ∷ xs) all =
+every_none test against apart [] all = refl
+every_none test against apart (x ∷ xs) all =
     rw (
       apart x (and_left (test x) (every test xs) all),
-      every-none test against apart xs (and_right (test x) (every test xs) all),
+      every_none test against apart xs (and_right (test x) (every test xs) all),
     )
 
 -- Tables of numbers --------------------------------------------------------------------------------------------------------
@@ -77,31 +77,31 @@ EachRow P [] = Unit {0}
 EachRow P (row ∷ rows) = P row.0 row.1 × EachRow P rows
 
 -- what holds of each row and of `other` holds of what is selected
-pub select-holds : {A : Type 0} (P : ℕ → A → Type 0) (n : ℕ) (rows : List (ℕ × A)) (other : A)
+pub select_holds : {A : Type 0} (P : ℕ → A → Type 0) (n : ℕ) (rows : List (ℕ × A)) (other : A)
     → EachRow P rows → P n other → P n (select n rows other)
-select-holds P n [] other each rest = rest
-select-holds P n (row ∷ rows) other each rest =
+select_holds P n [] other each rest = rest
+select_holds P n (row ∷ rows) other each rest =
     chosen (P n) (eqb n row.0) row.1 (select n rows other) (λ e. rw (eqb-true n row.0 e) each.0)
-    (select-holds P n rows other each.1 rest)
+    (select_holds P n rows other each.1 rest)
 
 -- what is selected, unless it is `other`, has a number that passes what all the numbers of the table pass
-pub select-listed : {A : Type 0} (test : ℕ → Bool) (n : ℕ) (rows : List (ℕ × A)) (other found : A)
+pub select_listed : {A : Type 0} (test : ℕ → Bool) (n : ℕ) (rows : List (ℕ × A)) (other found : A)
     → every (λ row. test row.0) rows ≡ true → (other ≡ found → ⊥) → select n rows other ≡ found → test n ≡ true
-select-listed test n [] other found all none = λ e. absurd (none e)
-select-listed {A} test n (row ∷ rows) other found all none =
+select_listed test n [] other found all none = λ e. absurd (none e)
+select_listed {A} test n (row ∷ rows) other found all none =
     chosen (λ (a : A). a ≡ found → test n ≡ true) (eqb n row.0) row.1 (select n rows other)
     (λ t _. rw (eqb-true n row.0 t) (and_left (test row.0) (every (λ r. test r.0) rows) all))
-    (select-listed test n rows other found (and_right (test row.0) (every (λ r. test r.0) rows) all) none)
+    (select_listed test n rows other found (and_right (test row.0) (every (λ r. test r.0) rows) all) none)
 
 -- Kinds and their numbers ----------------------------------------------------------------------------------------------------
 
 -- what holds of each thing that has the number n, and of `unknown`, holds of what is found
-pub numbered-holds : {A B : Type 0} (P : B → Type 0) (number : A → ℕ) (found : A → B) (unknown : B) (xs : List A) (n : ℕ)
+pub numbered_holds : {A B : Type 0} (P : B → Type 0) (number : A → ℕ) (found : A → B) (unknown : B) (xs : List A) (n : ℕ)
     → ((x : A) → number x ≡ n → P (found x)) → P unknown → P (numbered number found unknown xs n)
-numbered-holds P number found unknown [] n each rest = rest
-numbered-holds P number found unknown (x ∷ xs) n each rest =
+numbered_holds P number found unknown [] n each rest = rest
+numbered_holds P number found unknown (x ∷ xs) n each rest =
     chosen P (eqb n (number x)) (found x) (numbered number found unknown xs n) (λ e. each x (rw (eqb-true n (number x) e)))
-    (numbered-holds P number found unknown xs n each rest)
+    (numbered_holds P number found unknown xs n each rest)
 
 -- the same of a test that all the listed pass
 pub numbered-every : {A B : Type 0} (P : B → Type 0) (test : A → Bool) (number : A → ℕ) (found : A → B) (unknown : B)
@@ -119,13 +119,13 @@ pub record Kind {A B : Type 0} (number : A → ℕ) (found : A → B) (unknown :
 
 module _ {A B : Type 0} {number : A → ℕ} {found : A → B} {unknown : B} {xs : List A} (kind : Kind number found unknown xs) where
   -- what all the listed pass, every member passes: the list leaves none out
-  pub kind-every : (test : A → Bool) → every test xs ≡ true → (x : A) → test x ≡ true
-  kind-every test all x =
+  pub kind_every : (test : A → Bool) → every test xs ≡ true → (x : A) → test x ≡ true
+  kind_every test all x =
       numbered-every (λ (b : B). b ≡ found x → test x ≡ true) test number found unknown xs (number x) all
       (λ y e same. rw (← kind.same y x same) e)
       (λ none. absurd (true≢false (kind.apart x none)))
       (kind.back x)
 
   -- a bound of the listed numbers, computed, bounds them all
-  pub kind-below : (bound : ℕ) → every (λ x. ltb (number x) bound) xs ≡ true → (x : A) → number x < bound
-  kind-below bound all x = ltb-true (number x) bound (kind-every (λ y. ltb (number y) bound) all x)
+  pub kind_below : (bound : ℕ) → every (λ x. ltb (number x) bound) xs ≡ true → (x : A) → number x < bound
+  kind_below bound all x = ltb-true (number x) bound (kind_every (λ y. ltb (number y) bound) all x)

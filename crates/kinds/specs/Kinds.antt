@@ -18,123 +18,123 @@ use Rattle.kinds.specs.declared.status.FoundStatus.{FoundStatus}
 use Rattle.kinds.specs.declared.answer.Answer.{Answer}
 
 -- the last of the 32-bit numbers, where what is counted ends
-abbrev pub LAST-NUMBER : ℕ
-LAST-NUMBER = 4_294_967_295
+abbrev pub last_number : ℕ
+last_number = 4_294_967_295
 
-abbrev pub modeNumber : Mode → ℕ
-modeNumber Mode.Boot = 0
-modeNumber Mode.Terminal = 1
-modeNumber Mode.Quiescent = 2
-modeNumber Mode.Hold = 3
-modeNumber Mode.Calibration = 4
-modeNumber Mode.Physics = 5
-modeNumber Mode.Too = 6
+abbrev pub mode_number : Mode → ℕ
+mode_number Mode.Boot = 0
+mode_number Mode.Terminal = 1
+mode_number Mode.Quiescent = 2
+mode_number Mode.Hold = 3
+mode_number Mode.Calibration = 4
+mode_number Mode.Physics = 5
+mode_number Mode.Too = 6
 
 abbrev pub modes : List Mode
 modes = Mode.Boot ∷ Mode.Terminal ∷ Mode.Quiescent ∷ Mode.Hold ∷ Mode.Calibration ∷ Mode.Physics ∷ Mode.Too ∷ []
 
 abbrev pub mode_of : ℕ → FoundMode
-mode_of n = numbered modeNumber FoundMode.Found FoundMode.Unknown modes n
+mode_of n = numbered mode_number FoundMode.Found FoundMode.Unknown modes n
 
-abbrev pub modeIs : Mode → Mode → Bool
-modeIs a b = eqb (modeNumber a) (modeNumber b)
+abbrev pub mode_is : Mode → Mode → Bool
+mode_is a b = eqb (mode_number a) (mode_number b)
 
-abbrev pub taskNumber : Task → ℕ
-taskNumber Task.Idle = 0
-taskNumber Task.Running = 1
-taskNumber Task.Stopping = 2
+abbrev pub task_number : Task → ℕ
+task_number Task.Idle = 0
+task_number Task.Running = 1
+task_number Task.Stopping = 2
 
 abbrev pub tasks : List Task
 tasks = Task.Idle ∷ Task.Running ∷ Task.Stopping ∷ []
 
 abbrev pub task_of : ℕ → FoundTask
-task_of n = numbered taskNumber FoundTask.Found FoundTask.Unknown tasks n
+task_of n = numbered task_number FoundTask.Found FoundTask.Unknown tasks n
 
-abbrev pub taskIs : Task → Task → Bool
-taskIs a b = eqb (taskNumber a) (taskNumber b)
+abbrev pub task_is : Task → Task → Bool
+task_is a b = eqb (task_number a) (task_number b)
 
-abbrev pub lpaModeNumber : LpaMode → ℕ
-lpaModeNumber LpaMode.Normal = 0
-lpaModeNumber LpaMode.Too = 1
+abbrev pub lpa_mode_number : LpaMode → ℕ
+lpa_mode_number LpaMode.Normal = 0
+lpa_mode_number LpaMode.Too = 1
 
-abbrev pub lpaModes : List LpaMode
-lpaModes = LpaMode.Normal ∷ LpaMode.Too ∷ []
+abbrev pub lpa_modes : List LpaMode
+lpa_modes = LpaMode.Normal ∷ LpaMode.Too ∷ []
 
-abbrev pub lpaModeOf : ℕ → FoundLpaMode
-lpaModeOf n = numbered lpaModeNumber FoundLpaMode.Found FoundLpaMode.Unknown lpaModes n
+abbrev pub lpa_mode_of : ℕ → FoundLpaMode
+lpa_mode_of n = numbered lpa_mode_number FoundLpaMode.Found FoundLpaMode.Unknown lpa_modes n
 
-abbrev pub lpaModeIs : LpaMode → LpaMode → Bool
-lpaModeIs a b = eqb (lpaModeNumber a) (lpaModeNumber b)
+abbrev pub lpa_mode_is : LpaMode → LpaMode → Bool
+lpa_mode_is a b = eqb (lpa_mode_number a) (lpa_mode_number b)
 
-abbrev pub tooStateNumber : TooState → ℕ
-tooStateNumber TooState.None = 0
-tooStateNumber TooState.Waiting = 1
-tooStateNumber TooState.Started = 2
+abbrev pub too_state_number : TooState → ℕ
+too_state_number TooState.None = 0
+too_state_number TooState.Waiting = 1
+too_state_number TooState.Started = 2
 
-abbrev pub tooStates : List TooState
-tooStates = TooState.None ∷ TooState.Waiting ∷ TooState.Started ∷ []
+abbrev pub too_states : List TooState
+too_states = TooState.None ∷ TooState.Waiting ∷ TooState.Started ∷ []
 
-abbrev pub tooStateOf : ℕ → FoundTooState
-tooStateOf n = numbered tooStateNumber FoundTooState.Found FoundTooState.Unknown tooStates n
+abbrev pub too_state_of : ℕ → FoundTooState
+too_state_of n = numbered too_state_number FoundTooState.Found FoundTooState.Unknown too_states n
 
-abbrev pub tooStateIs : TooState → TooState → Bool
-tooStateIs a b = eqb (tooStateNumber a) (tooStateNumber b)
+abbrev pub too_state_is : TooState → TooState → Bool
+too_state_is a b = eqb (too_state_number a) (too_state_number b)
 
 -- SAA, the awaited starts, and whether a task's report was good
-abbrev pub flagNumber : Bool → ℕ
-flagNumber false = 0
-flagNumber true = 1
+abbrev pub flag_number : Bool → ℕ
+flag_number false = 0
+flag_number true = 1
 
 abbrev pub flags : List Bool
 flags = false ∷ true ∷ []
 
-abbrev pub flagOf : ℕ → FoundFlag
-flagOf n = numbered flagNumber FoundFlag.Found FoundFlag.Unknown flags n
+abbrev pub flag_of : ℕ → FoundFlag
+flag_of n = numbered flag_number FoundFlag.Found FoundFlag.Unknown flags n
 
-abbrev pub statusNumber : Status → ℕ
-statusNumber Status.Success = 0
-statusNumber Status.PktSent = 1
-statusNumber Status.Fwd = 2
-statusNumber Status.NotRun = 3
-statusNumber Status.BadMode = 4
-statusNumber Status.TooAct = 5
-statusNumber Status.BadParam = 6
-statusNumber Status.Saa = 7
-statusNumber Status.OthRun = 8
-statusNumber Status.OthStop = 9
-statusNumber Status.OthIdle = 10
-statusNumber Status.Stale = 11
+abbrev pub status_number : Status → ℕ
+status_number Status.Success = 0
+status_number Status.PktSent = 1
+status_number Status.Fwd = 2
+status_number Status.NotRun = 3
+status_number Status.BadMode = 4
+status_number Status.TooAct = 5
+status_number Status.BadParam = 6
+status_number Status.Saa = 7
+status_number Status.OthRun = 8
+status_number Status.OthStop = 9
+status_number Status.OthIdle = 10
+status_number Status.Stale = 11
 
 abbrev pub statuses : List Status
 statuses =
     Status.Success ∷ Status.PktSent ∷ Status.Fwd ∷ Status.NotRun ∷ Status.BadMode ∷ Status.TooAct
     ∷ Status.BadParam ∷ Status.Saa ∷ Status.OthRun ∷ Status.OthStop ∷ Status.OthIdle ∷ Status.Stale ∷ []
 
-abbrev pub statusOf : ℕ → FoundStatus
-statusOf n = numbered statusNumber FoundStatus.Found FoundStatus.Unknown statuses n
+abbrev pub status_of : ℕ → FoundStatus
+status_of n = numbered status_number FoundStatus.Found FoundStatus.Unknown statuses n
 
-abbrev pub statusIs : Status → Status → Bool
-statusIs a b = eqb (statusNumber a) (statusNumber b)
+abbrev pub status_is : Status → Status → Bool
+status_is a b = eqb (status_number a) (status_number b)
 
 -- the refusals, in the order in which they are looked for: the first that applies is the answer. Today it is that of their numbers
--- (`refusals-numbered`)
-abbrev pub refusalOrder : List Status
-refusalOrder =
+-- (`refusals_numbered`)
+abbrev pub refusal_order : List Status
+refusal_order =
     Status.NotRun ∷ Status.BadMode ∷ Status.TooAct ∷ Status.BadParam ∷ Status.Saa
     ∷ Status.OthRun ∷ Status.OthStop ∷ Status.OthIdle ∷ Status.Stale ∷ []
 
 -- how many refusals are looked for before this one
-abbrev pub refusalPlace : Status → ℕ
-refusalPlace x = place (statusIs x) refusalOrder
+abbrev pub refusal_place : Status → ℕ
+refusal_place x = place (status_is x) refusal_order
 
-abbrev pub isRefusal : Status → Bool
-isRefusal x = some (statusIs x) refusalOrder
+abbrev pub is_refusal : Status → Bool
+is_refusal x = some (status_is x) refusal_order
 
 -- the manager's answers: the status of what was taken, and the refusals that are not logged
-abbrev pub answerNumber : Answer → ℕ
-answerNumber (Answer.Taken s) = statusNumber s
-answerNumber Answer.Full = 12
-answerNumber Answer.BadState = 13
-answerNumber Answer.BadEvent = 14
-answerNumber Answer.BadBuf = 15
-answerNumber Answer.Empty = 16
+abbrev pub answer_number : Answer → ℕ
+answer_number (Answer.Taken s) = status_number s
+answer_number Answer.Full = 12
+answer_number Answer.BadState = 13
+answer_number Answer.BadEvent = 14
+answer_number Answer.BadBuf = 15
+answer_number Answer.Empty = 16

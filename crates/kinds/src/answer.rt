@@ -1,6 +1,6 @@
 // The manager's answers and their numbers (Answers of the manager, Log blocks).
 ghost use Rattle.std.specs.Prelude.{◌≡◌};
-ghost use Rattle.kinds.specs.Kinds.{answerNumber};
+ghost use Rattle.kinds.specs.Kinds.{answer_number};
 
 use crate::Status;
 
@@ -27,7 +27,7 @@ impl Answer {
     pub const EMPTY: u16 = 16;
 
     pub fn number(self) -> u16
-        ensures { result ≡ answerNumber self }
+        ensures { result ≡ answer_number self }
     {
         match self {
             Answer::Taken(status) => status.number(),

@@ -1,6 +1,6 @@
 // How LPA runs, for the ordinary observation or for the target of opportunity, and the numbers (State).
 ghost use Rattle.std.specs.Prelude.{◌≡◌};
-ghost use Rattle.kinds.specs.Kinds.{lpaModeNumber, lpaModeOf, lpaModeIs};
+ghost use Rattle.kinds.specs.Kinds.{lpa_mode_number, lpa_mode_of, lpa_mode_is};
 
 #[derive(Drop)]
 pub enum LpaMode {
@@ -20,7 +20,7 @@ impl LpaMode {
     pub const TOO: u16 = 1;
 
     pub fn number(self) -> u16
-        ensures { result ≡ lpaModeNumber self }
+        ensures { result ≡ lpa_mode_number self }
     {
         match self {
             LpaMode::Normal => LpaMode::NORMAL,
@@ -29,7 +29,7 @@ impl LpaMode {
     }
 
     pub fn of(number: u16) -> FoundLpaMode
-        ensures { result ≡ lpaModeOf number }
+        ensures { result ≡ lpa_mode_of number }
     {
         match number {
             LpaMode::NORMAL => FoundLpaMode::Found(LpaMode::Normal),
@@ -39,7 +39,7 @@ impl LpaMode {
     }
 
     pub fn is(self, other: LpaMode) -> bool
-        ensures { result ≡ lpaModeIs self other }
+        ensures { result ≡ lpa_mode_is self other }
     {
         self.number() == other.number()
     }

@@ -1,6 +1,6 @@
 // The modes of the instrument and their numbers (State).
 ghost use Rattle.std.specs.Prelude.{◌≡◌};
-ghost use Rattle.kinds.specs.Kinds.{modeNumber, mode_of, modeIs};
+ghost use Rattle.kinds.specs.Kinds.{mode_number, mode_of, mode_is};
 
 #[derive(Drop)]
 pub enum Mode {
@@ -35,7 +35,7 @@ impl Mode {
     pub const TOO: u16 = 6;
 
     pub fn number(self) -> u16
-        ensures { result ≡ modeNumber self }
+        ensures { result ≡ mode_number self }
     {
         match self {
             Mode::Boot => Mode::BOOT,
@@ -64,7 +64,7 @@ impl Mode {
     }
 
     pub fn is(self, other: Mode) -> bool
-        ensures { result ≡ modeIs self other }
+        ensures { result ≡ mode_is self other }
     {
         self.number() == other.number()
     }

@@ -1,6 +1,6 @@
 // Where a task, LCI or LPA, stands, and the numbers (State).
 ghost use Rattle.std.specs.Prelude.{◌≡◌};
-ghost use Rattle.kinds.specs.Kinds.{taskNumber, task_of, taskIs};
+ghost use Rattle.kinds.specs.Kinds.{task_number, task_of, task_is};
 
 #[derive(Drop)]
 pub enum Task {
@@ -23,7 +23,7 @@ impl Task {
     pub const STOPPING: u16 = 2;
 
     pub fn number(self) -> u16
-        ensures { result ≡ taskNumber self }
+        ensures { result ≡ task_number self }
     {
         match self {
             Task::Idle => Task::IDLE,
@@ -44,7 +44,7 @@ impl Task {
     }
 
     pub fn is(self, other: Task) -> bool
-        ensures { result ≡ taskIs self other }
+        ensures { result ≡ task_is self other }
     {
         self.number() == other.number()
     }

@@ -1,6 +1,6 @@
 // How far the target of opportunity is, and the numbers (State).
 ghost use Rattle.std.specs.Prelude.{◌≡◌};
-ghost use Rattle.kinds.specs.Kinds.{tooStateNumber, tooStateOf, tooStateIs};
+ghost use Rattle.kinds.specs.Kinds.{too_state_number, too_state_of, too_state_is};
 
 #[derive(Drop)]
 pub enum TooState {
@@ -23,7 +23,7 @@ impl TooState {
     pub const STARTED: u16 = 2;
 
     pub fn number(self) -> u16
-        ensures { result ≡ tooStateNumber self }
+        ensures { result ≡ too_state_number self }
     {
         match self {
             TooState::None => TooState::NONE,
@@ -33,7 +33,7 @@ impl TooState {
     }
 
     pub fn of(number: u16) -> FoundTooState
-        ensures { result ≡ tooStateOf number }
+        ensures { result ≡ too_state_of number }
     {
         match number {
             TooState::NONE => FoundTooState::Found(TooState::None),
@@ -44,7 +44,7 @@ impl TooState {
     }
 
     pub fn is(self, other: TooState) -> bool
-        ensures { result ≡ tooStateIs self other }
+        ensures { result ≡ too_state_is self other }
     {
         self.number() == other.number()
     }

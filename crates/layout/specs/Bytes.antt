@@ -12,8 +12,8 @@ join2 a b = a * 256 + b
 abbrev pub join4 : ℕ → ℕ → ℕ → ℕ → ℕ
 join4 a b c d = ((a * 256 + b) * 256 + c) * 256 + d
 
-unfoldable pub u16At : List ℕ → ℕ → ℕ
-u16At s i = join2 (get_or s i 0) (get_or s (i + 1) 0)
+unfoldable pub u16_at : List ℕ → ℕ → ℕ
+u16_at s i = join2 (get_or s i 0) (get_or s (i + 1) 0)
 
 unfoldable pub u32_at : List ℕ → ℕ → ℕ
 u32_at s i = join4 (get_or s i 0) (get_or s (i + 1) 0) (get_or s (i + 2) 0) (get_or s (i + 3) 0)

@@ -4,7 +4,7 @@ use Rattle.std.specs.Prelude.{ℕ, ◌+◌, ◌*◌, ◌/◌, ◌%◌, ◌^◌, 
 use Rattle.std.proofs.Common.{append_assoc, ap₂, ◌∙◌, add-zero, add_assoc, mod-eq_of_lt, arith, get_or-drop}
 use Rattle.std.proofs.Math.ListN.{get_or-append}
 use Rattle.std.proofs.Math.Seq.{drop-append_seam}
-use Rattle.layout.specs.Bytes.{AreBytes, join2, join4, u16At, u32_at, two, four}
+use Rattle.layout.specs.Bytes.{AreBytes, join2, join4, u16_at, u32_at, two, four}
 
 -- Lengths --------------------------------------------------------------------------------------------------------------------
 
@@ -18,11 +18,11 @@ four-length n = refl
 
 -- Numbers and their bytes ----------------------------------------------------------------------------------------------------
 
-pub two-joined : (n : ℕ) → n < 2 ^ 16 → join2 (n / 256 % 256) (n % 256) ≡ n
-two-joined n h = omega arith
+pub two_joined : (n : ℕ) → n < 2 ^ 16 → join2 (n / 256 % 256) (n % 256) ≡ n
+two_joined n h = omega arith
 
-join4-halves : (a b c d : ℕ) → join4 a b c d ≡ join2 a b * 65536 + join2 c d
-join4-halves a b c d = omega arith
+join4_halves : (a b c d : ℕ) → join4 a b c d ≡ join2 a b * 65536 + join2 c d
+join4_halves a b c d = omega arith
 
 high_half : (n : ℕ) → n < 2 ^ 32 → join2 (n / 16777216 % 256) (n / 65536 % 256) ≡ n / 65536
 high_half n h = omega arith
@@ -30,40 +30,40 @@ high_half n h = omega arith
 low_half : (n : ℕ) → join2 (n / 256 % 256) (n % 256) ≡ n % 65536
 low_half n = omega arith
 
-halves-joined : (n : ℕ) → n / 65536 * 65536 + n % 65536 ≡ n
-halves-joined n = omega arith
+halves_joined : (n : ℕ) → n / 65536 * 65536 + n % 65536 ≡ n
+halves_joined n = omega arith
 
-pub four-joined : (n : ℕ) → n < 2 ^ 32 → join4 (n / 16777216 % 256) (n / 65536 % 256) (n / 256 % 256) (n % 256) ≡ n
-four-joined n h =
-    join4-halves (n / 16777216 % 256) (n / 65536 % 256) (n / 256 % 256) (n % 256)
-    ∙ rw (high_half n h, low_half n) (halves-joined n)
+pub four_joined : (n : ℕ) → n < 2 ^ 32 → join4 (n / 16777216 % 256) (n / 65536 % 256) (n / 256 % 256) (n % 256) ≡ n
+four_joined n h =
+    join4_halves (n / 16777216 % 256) (n / 65536 % 256) (n / 256 % 256) (n % 256)
+    ∙ rw (high_half n h, low_half n) (halves_joined n)
 
 -- the last byte of a number, and what is left without it
 last_byte : (n b : ℕ) → b < 256 → (n * 256 + b) % 256 ≡ b
 last_byte n b h = omega arith
 
-without-last : (n b : ℕ) → b < 256 → (n * 256 + b) / 256 ≡ n
-without-last n b h = omega arith
+without_last : (n b : ℕ) → b < 256 → (n * 256 + b) / 256 ≡ n
+without_last n b h = omega arith
 
-without-two : (n : ℕ) → n / 65536 ≡ n / 256 / 256
-without-two n = omega arith
+without_two : (n : ℕ) → n / 65536 ≡ n / 256 / 256
+without_two n = omega arith
 
-without-three : (n : ℕ) → n / 16777216 ≡ n / 256 / 256 / 256
-without-three n = omega arith
+without_three : (n : ℕ) → n / 16777216 ≡ n / 256 / 256 / 256
+without_three n = omega arith
 
 pub join2-bytes : (a b : ℕ) → a < 256 → b < 256 → two (join2 a b) ≡ a ∷ b ∷ []
 unfolding two
-join2-bytes a b ha hb = rw (without-last a b hb, last_byte a b hb, mod-eq_of_lt ha)
+join2-bytes a b ha hb = rw (without_last a b hb, last_byte a b hb, mod-eq_of_lt ha)
 
 pub join4-bytes : (a b c d : ℕ) → a < 256 → b < 256 → c < 256 → d < 256 → four (join4 a b c d) ≡ a ∷ b ∷ c ∷ d ∷ []
 unfolding four
 join4-bytes a b c d ha hb hc hd =
     rw (
-      without-three (join4 a b c d),
-      without-two (join4 a b c d),
-      without-last ((a * 256 + b) * 256 + c) d hd,
-      without-last (a * 256 + b) c hc,
-      without-last a b hb,
+      without_three (join4 a b c d),
+      without_two (join4 a b c d),
+      without_last ((a * 256 + b) * 256 + c) d hd,
+      without_last (a * 256 + b) c hc,
+      without_last a b hb,
       last_byte ((a * 256 + b) * 256 + c) d hd,
       last_byte (a * 256 + b) c hc,
       last_byte a b hb,
@@ -72,17 +72,17 @@ join4-bytes a b c d ha hb hc hd =
 
 -- What a read sees -----------------------------------------------------------------------------------------------------------
 
-pub bytes-dropped : (s : List ℕ) (n : ℕ) → AreBytes s → AreBytes (drop n s)
-bytes-dropped s n bytes i = rw (get_or-drop n s i 0) (bytes (n + i))
+pub bytes_dropped : (s : List ℕ) (n : ℕ) → AreBytes s → AreBytes (drop n s)
+bytes_dropped s n bytes i = rw (get_or-drop n s i 0) (bytes (n + i))
 
 -- a read sees only what stands from its place on
-pub u16-dropped : (s : List ℕ) (n i : ℕ) → u16At (drop n s) i ≡ u16At s (n + i)
-unfolding u16At
-u16-dropped s n i = rw (get_or-drop n s i 0, get_or-drop n s (i + 1) 0, add_assoc n i 1)
+pub u16_dropped : (s : List ℕ) (n i : ℕ) → u16_at (drop n s) i ≡ u16_at s (n + i)
+unfolding u16_at
+u16_dropped s n i = rw (get_or-drop n s i 0, get_or-drop n s (i + 1) 0, add_assoc n i 1)
 
-pub u32-dropped : (s : List ℕ) (n i : ℕ) → u32_at (drop n s) i ≡ u32_at s (n + i)
+pub u32_dropped : (s : List ℕ) (n i : ℕ) → u32_at (drop n s) i ≡ u32_at s (n + i)
 unfolding u32_at
-u32-dropped s n i =
+u32_dropped s n i =
     rw (
       get_or-drop n s i 0,
       get_or-drop n s (i + 1) 0,
@@ -94,21 +94,21 @@ u32-dropped s n i =
     )
 
 -- after a string that is put in front, all is read as before
-pub u16-after : (pre s : List ℕ) (i : ℕ) → u16At (pre ++ s) (length pre + i) ≡ u16At s i
-u16-after pre s i = rw (← u16-dropped (pre ++ s) (length pre) i, drop-append_seam pre s)
+pub u16_after : (pre s : List ℕ) (i : ℕ) → u16_at (pre ++ s) (length pre + i) ≡ u16_at s i
+u16_after pre s i = rw (← u16_dropped (pre ++ s) (length pre) i, drop-append_seam pre s)
 
-pub u32-after : (pre s : List ℕ) (i : ℕ) → u32_at (pre ++ s) (length pre + i) ≡ u32_at s i
-u32-after pre s i = rw (← u32-dropped (pre ++ s) (length pre) i, drop-append_seam pre s)
+pub u32_after : (pre s : List ℕ) (i : ℕ) → u32_at (pre ++ s) (length pre + i) ≡ u32_at s i
+u32_after pre s i = rw (← u32_dropped (pre ++ s) (length pre) i, drop-append_seam pre s)
 
 -- before a string that is put after it, too
-pub u16-front : (a b : List ℕ) (i : ℕ) → i + 2 ≤ length a → u16At (a ++ b) i ≡ u16At a i
-unfolding u16At
-u16-front a b i room =
+pub u16_front : (a b : List ℕ) (i : ℕ) → i + 2 ≤ length a → u16_at (a ++ b) i ≡ u16_at a i
+unfolding u16_at
+u16_front a b i room =
     ap₂ join2 (get_or-append a b 0 i (omega arith)) (get_or-append a b 0 (i + 1) (omega arith))
 
-pub u32-front : (a b : List ℕ) (i : ℕ) → i + 4 ≤ length a → u32_at (a ++ b) i ≡ u32_at a i
+pub u32_front : (a b : List ℕ) (i : ℕ) → i + 4 ≤ length a → u32_at (a ++ b) i ≡ u32_at a i
 unfolding u32_at
-u32-front a b i room =
+u32_front a b i room =
     rw (
       get_or-append a b 0 i (omega arith),
       get_or-append a b 0 (i + 1) (omega arith),
@@ -118,39 +118,39 @@ u32-front a b i room =
 
 -- What is written is read ----------------------------------------------------------------------------------------------------
 
-two-read-front : (post : List ℕ) (n : ℕ) → n < 2 ^ 16 → u16At (two n ++ post) 0 ≡ n
-unfolding u16At two
-two-read-front post n fits = two-joined n fits
+two_read_front : (post : List ℕ) (n : ℕ) → n < 2 ^ 16 → u16_at (two n ++ post) 0 ≡ n
+unfolding u16_at two
+two_read_front post n fits = two_joined n fits
 
-pub two-read : (pre post : List ℕ) (n : ℕ) → n < 2 ^ 16 → u16At (pre ++ two n ++ post) (length pre) ≡ n
-two-read pre post n fits =
-    rw (append_assoc pre (two n) post, ← add-zero (length pre), u16-after pre (two n ++ post) 0) (two-read-front post n fits)
+pub two_read : (pre post : List ℕ) (n : ℕ) → n < 2 ^ 16 → u16_at (pre ++ two n ++ post) (length pre) ≡ n
+two_read pre post n fits =
+    rw (append_assoc pre (two n) post, ← add-zero (length pre), u16_after pre (two n ++ post) 0) (two_read_front post n fits)
 
-four-read-front : (post : List ℕ) (n : ℕ) → n < 2 ^ 32 → u32_at (four n ++ post) 0 ≡ n
+four_read_front : (post : List ℕ) (n : ℕ) → n < 2 ^ 32 → u32_at (four n ++ post) 0 ≡ n
 unfolding u32_at four
-four-read-front post n fits = four-joined n fits
+four_read_front post n fits = four_joined n fits
 
-pub four-read : (pre post : List ℕ) (n : ℕ) → n < 2 ^ 32 → u32_at (pre ++ four n ++ post) (length pre) ≡ n
-four-read pre post n fits =
-    rw (append_assoc pre (four n) post, ← add-zero (length pre), u32-after pre (four n ++ post) 0) (four-read-front post n fits)
+pub four_read : (pre post : List ℕ) (n : ℕ) → n < 2 ^ 32 → u32_at (pre ++ four n ++ post) (length pre) ≡ n
+four_read pre post n fits =
+    rw (append_assoc pre (four n) post, ← add-zero (length pre), u32_after pre (four n ++ post) 0) (four_read_front post n fits)
 
 -- the same, where the place is known only by an equation
-pub two-read-at : (pre post : List ℕ) (n at : ℕ) → length pre ≡ at → n < 2 ^ 16 → u16At (pre ++ two n ++ post) at ≡ n
-two-read-at pre post n at e fits = rw (← e) (two-read pre post n fits)
+pub two_read_at : (pre post : List ℕ) (n at : ℕ) → length pre ≡ at → n < 2 ^ 16 → u16_at (pre ++ two n ++ post) at ≡ n
+two_read_at pre post n at e fits = rw (← e) (two_read pre post n fits)
 
 -- What is read is what stands there ------------------------------------------------------------------------------------------
 
 module _ (s : List ℕ) (i : ℕ) (bytes : AreBytes s) where
-  pub two-written : two (u16At s i) ≡ get_or s i 0 ∷ get_or s (i + 1) 0 ∷ []
-  unfolding u16At
-  two-written = join2-bytes (get_or s i 0) (get_or s (i + 1) 0) (bytes i) (bytes (i + 1))
+  pub two_written : two (u16_at s i) ≡ get_or s i 0 ∷ get_or s (i + 1) 0 ∷ []
+  unfolding u16_at
+  two_written = join2-bytes (get_or s i 0) (get_or s (i + 1) 0) (bytes i) (bytes (i + 1))
 
-  pub four-written : four (u32_at s i) ≡ get_or s i 0 ∷ get_or s (i + 1) 0 ∷ get_or s (i + 2) 0 ∷ get_or s (i + 3) 0 ∷ []
+  pub four_written : four (u32_at s i) ≡ get_or s i 0 ∷ get_or s (i + 1) 0 ∷ get_or s (i + 2) 0 ∷ get_or s (i + 3) 0 ∷ []
   unfolding u32_at
-  four-written =
+  four_written =
       join4-bytes (get_or s i 0) (get_or s (i + 1) 0) (get_or s (i + 2) 0) (get_or s (i + 3) 0)
       (bytes i) (bytes (i + 1)) (bytes (i + 2)) (bytes (i + 3))
 
-  pub u32-fits : u32_at s i < 2 ^ 32
+  pub u32_fits : u32_at s i < 2 ^ 32
   unfolding u32_at
-  u32-fits = omega (arith, bytes i, bytes (i + 1), bytes (i + 2), bytes (i + 3))
+  u32_fits = omega (arith, bytes i, bytes (i + 1), bytes (i + 2), bytes (i + 3))

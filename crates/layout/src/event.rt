@@ -1,6 +1,6 @@
 // An event's 12 bytes (Events).
 ghost use Rattle.std.specs.Prelude.{◌≡◌};
-ghost use Rattle.layout.specs.Event.{readEvent, eventBytes};
+ghost use Rattle.layout.specs.Event.{read_event, event_bytes};
 
 use crate::bytes::{four, two, u16_at, u32_at};
 use events::{Event, EventParts, FoundEvent};
@@ -18,7 +18,7 @@ const B_AT: usize = 8;
 
 // The event of a string, whatever its length and content.
 pub fn read_event(s: &[u8]) -> FoundEvent
-    ensures { result ≡ readEvent s.now }
+    ensures { result ≡ read_event s.now }
 {
     if s.len() != EVENT {
         return FoundEvent::Unknown;
@@ -32,7 +32,7 @@ pub fn read_event(s: &[u8]) -> FoundEvent
 }
 
 pub fn event_bytes(event: Event) -> [u8; EVENT]
-    ensures { result ≡ eventBytes event }
+    ensures { result ≡ event_bytes event }
 {
     let parts = event.taken_apart();
     let code = two(parts.code);

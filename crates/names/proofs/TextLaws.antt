@@ -13,9 +13,9 @@ use borrow.Author.Tests.{lt-ltb, le-ltb, eq-eqb, ne_eqb}
 use borrow.Author.Rules.{rules}
 use Rattle.kinds.specs.Choice.{every}
 use Rattle.kinds.specs.ChoiceLaws.{chosen}
-use Rattle.terminal.specs.Numeral.{digitOf}
-use Rattle.names.specs.Line.{isHexDigit}
-use Rattle.names.specs.Text.{ends, leading, upper, sameWord}
+use Rattle.terminal.specs.Numeral.{digit_of}
+use Rattle.names.specs.Line.{is_hex_digit}
+use Rattle.names.specs.Text.{ends, leading, upper, same_word}
 
 left-cons : (t : List ℕ) (i : ℕ) → i < length t → drop i t ≡ get_or t i 0 ∷ drop (i + 1) t
 left-cons t i more = drop-cons t i 0 more ∙ rw (add-one) refl
@@ -24,8 +24,8 @@ left-cons t i more = drop-cons t i 0 more ∙ rw (add-one) refl
 pub rest_from : (t : List ℕ) (n m : ℕ) → n ≡ m → take (length t - n) (drop n t) ≡ drop m t
 rest_from t n m e = take_all (length t - n) (drop n t) (rw (length-drop n t) (search rules)) ∙ ap (λ k. drop k t) e
 
-pub first-long : (t : List ℕ) (n : ℕ) → n ≤ length t → n ≡ length (take n t)
-first-long t n within = rw (length-take n t) (omega (arith, within))
+pub first_long : (t : List ℕ) (n : ℕ) → n ≤ length t → n ≡ length (take n t)
+first_long t n within = rw (length-take n t) (omega (arith, within))
 
 -- Leading bytes ------------------------------------------------------------------------------------------------------------
 
@@ -33,28 +33,28 @@ none_more : (separators : Bool) (b : ℕ) (bs : List ℕ) → ends b separators 
 unfolding leading
 none_more separators b bs other = rw other refl
 
-one_more : (separators : Bool) (b : ℕ) (bs : List ℕ) → ends b separators ≡ false
+one_more_lem : (separators : Bool) (b : ℕ) (bs : List ℕ) → ends b separators ≡ false
     → leading separators (b ∷ bs) ≡ leading separators bs + 1
 unfolding leading
-one_more separators b bs alike = rw alike refl
+one_more_lem separators b bs alike = rw alike refl
 
 no_bytes : (separators : Bool) → leading separators [] ≡ 0
 unfolding leading
 no_bytes separators = refl
 
 module _ (separators : Bool) (t : List ℕ) (i n : ℕ) where
-  pub leading-stops : i < length t → (d : Bool) → d ≡ ends (get_or t i 0) separators → d ≡ true
+  pub leading_stops : i < length t → (d : Bool) → d ≡ ends (get_or t i 0) separators → d ≡ true
       → i + leading separators (drop i t) ≡ n → i ≡ n
-  leading-stops more d is other e =
+  leading_stops more d is other e =
       let zero_left : leading separators (drop i t) ≡ 0 =
       ap (leading separators) (left-cons t i more) ∙ none_more separators (get_or t i 0) (drop (i + 1) t) (sym is ∙ other)
       in omega (arith, e, zero_left)
 
-  pub leading-turn : i < length t → (d : Bool) → d ≡ ends (get_or t i 0) separators → d ≡ false
+  pub leading_turn : i < length t → (d : Bool) → d ≡ ends (get_or t i 0) separators → d ≡ false
       → i + leading separators (drop i t) ≡ n → i + 1 + leading separators (drop (i + 1) t) ≡ n
-  leading-turn more d is alike e =
+  leading_turn more d is alike e =
       let one_left : leading separators (drop i t) ≡ leading separators (drop (i + 1) t) + 1 =
-      ap (leading separators) (left-cons t i more) ∙ one_more separators (get_or t i 0) (drop (i + 1) t) (sym is ∙ alike)
+      ap (leading separators) (left-cons t i more) ∙ one_more_lem separators (get_or t i 0) (drop (i + 1) t) (sym is ∙ alike)
       in omega (arith, e, one_left)
 
   pub leading-ends : length t ≤ i → i + leading separators (drop i t) ≡ n → i ≡ n
@@ -65,52 +65,52 @@ module _ (separators : Bool) (t : List ℕ) (i n : ℕ) where
 
 -- A word and a name --------------------------------------------------------------------------------------------------------
 
-pub same-lengths : (w name : List ℕ) → (length w ≡ length name → ⊥) → false ≡ sameWord w name
-unfolding sameWord
-same-lengths [] [] ne = absurd (ne refl)
-same-lengths [] (y ∷ ys) ne = refl
-same-lengths (x ∷ xs) [] ne = refl
-same-lengths (x ∷ xs) (y ∷ ys) ne =
-    chosen (λ (b : Bool). false ≡ b) (eqb (upper x) y) (sameWord xs ys) false (λ _. same-lengths xs ys (λ e. ne (ap suc e))) refl
+pub same_lengths : (w name : List ℕ) → (length w ≡ length name → ⊥) → false ≡ same_word w name
+unfolding same_word
+same_lengths [] [] ne = absurd (ne refl)
+same_lengths [] (y ∷ ys) ne = refl
+same_lengths (x ∷ xs) [] ne = refl
+same_lengths (x ∷ xs) (y ∷ ys) ne =
+    chosen (λ (b : Bool). false ≡ b) (eqb (upper x) y) (same_word xs ys) false (λ _. same_lengths xs ys (λ e. ne (ap suc e))) refl
 
-differ : (x y : ℕ) (xs ys : List ℕ) → (upper x ≡ y → ⊥) → sameWord (x ∷ xs) (y ∷ ys) ≡ false
-unfolding sameWord
+differ : (x y : ℕ) (xs ys : List ℕ) → (upper x ≡ y → ⊥) → same_word (x ∷ xs) (y ∷ ys) ≡ false
+unfolding same_word
 differ x y xs ys ne = rw (ne_eqb (upper x) y ne) refl
 
-agree : (x y : ℕ) (xs ys : List ℕ) → upper x ≡ y → sameWord (x ∷ xs) (y ∷ ys) ≡ sameWord xs ys
-unfolding sameWord
+agree : (x y : ℕ) (xs ys : List ℕ) → upper x ≡ y → same_word (x ∷ xs) (y ∷ ys) ≡ same_word xs ys
+unfolding same_word
 agree x y xs ys e = rw (eq-eqb (upper x) y e) refl
 
-nothing_left : sameWord [] [] ≡ true
-unfolding sameWord
+nothing_left : same_word [] [] ≡ true
+unfolding same_word
 nothing_left = refl
 
 module _ (w name : List ℕ) (i : ℕ) (r : Bool) where
   both_left : i < length w → length w ≡ length name
-      → sameWord (drop i w) (drop i name) ≡ sameWord (get_or w i 0 ∷ drop (i + 1) w) (get_or name i 0 ∷ drop (i + 1) name)
+      → same_word (drop i w) (drop i name) ≡ same_word (get_or w i 0 ∷ drop (i + 1) w) (get_or name i 0 ∷ drop (i + 1) name)
   both_left more long = rw (left-cons w i more, left-cons name i (subst (λ n. i < n) long more)) refl
 
-  pub same-stops : i < length w → length w ≡ length name → (u : ℕ) → u ≡ upper (get_or w i 0) → (u ≡ get_or name i 0 → ⊥)
-      → sameWord (drop i w) (drop i name) ≡ r → false ≡ r
-  same-stops more long u is ne e =
+  pub same_stops : i < length w → length w ≡ length name → (u : ℕ) → u ≡ upper (get_or w i 0) → (u ≡ get_or name i 0 → ⊥)
+      → same_word (drop i w) (drop i name) ≡ r → false ≡ r
+  same_stops more long u is ne e =
       sym (both_left more long ∙ differ (get_or w i 0) (get_or name i 0) (drop (i + 1) w) (drop (i + 1) name) (λ z. ne (is ∙ z))) ∙ e
 
   pub same_turn : i < length w → length w ≡ length name → (u : ℕ) → u ≡ upper (get_or w i 0) → u ≡ get_or name i 0
-      → sameWord (drop i w) (drop i name) ≡ r → sameWord (drop (i + 1) w) (drop (i + 1) name) ≡ r
+      → same_word (drop i w) (drop i name) ≡ r → same_word (drop (i + 1) w) (drop (i + 1) name) ≡ r
   same_turn more long u is alike e =
       sym (both_left more long ∙ agree (get_or w i 0) (get_or name i 0) (drop (i + 1) w) (drop (i + 1) name) (sym is ∙ alike)) ∙ e
 
-  pub same_ends : length w ≤ i → length w ≡ length name → sameWord (drop i w) (drop i name) ≡ r → true ≡ r
+  pub same_ends : length w ≤ i → length w ≡ length name → same_word (drop i w) (drop i name) ≡ r → true ≡ r
   same_ends past long e =
       sym (rw (drop_of_length-le w {i = i} past, drop_of_length-le name {i = i} (subst (λ n. n ≤ i) long past)) nothing_left) ∙ e
 
 -- An upper letter ----------------------------------------------------------------------------------------------------------
 
-pub upper-before : (b : ℕ) → b < 97 → b ≡ upper b
-upper-before b l = rw (lt-ltb b 97 l) refl
+pub upper_before : (b : ℕ) → b < 97 → b ≡ upper b
+upper_before b l = rw (lt-ltb b 97 l) refl
 
-pub upper-small : (b : ℕ) → 97 ≤ b → b ≤ 122 → b - 32 ≡ upper b
-upper-small b m l = rw (le-ltb b 97 m, le-ltb 122 b l) refl
+pub upper_small : (b : ℕ) → 97 ≤ b → b ≤ 122 → b - 32 ≡ upper b
+upper_small b m l = rw (le-ltb b 97 m, le-ltb 122 b l) refl
 
 pub upper-after : (b : ℕ) → 97 ≤ b → 122 < b → b ≡ upper b
 upper-after b m l = rw (le-ltb b 97 m, lt-ltb 122 b l) refl
@@ -118,17 +118,17 @@ upper-after b m l = rw (le-ltb b 97 m, lt-ltb 122 b l) refl
 -- Hex digits ---------------------------------------------------------------------------------------------------------------
 
 module _ (digits : List ℕ) (i : ℕ) (r : Bool) where
-  hex-first : i < length digits
-      → every isHexDigit (drop i digits) ≡ every isHexDigit (get_or digits i 0 ∷ drop (i + 1) digits)
-  hex-first more = ap (every isHexDigit) (left-cons digits i more)
+  hex_first : i < length digits
+      → every is_hex_digit (drop i digits) ≡ every is_hex_digit (get_or digits i 0 ∷ drop (i + 1) digits)
+  hex_first more = ap (every is_hex_digit) (left-cons digits i more)
 
-  pub hex-stops : i < length digits → (d : ℕ) → d ≡ digitOf (get_or digits i 0) true → d ≡ 16
-      → every isHexDigit (drop i digits) ≡ r → false ≡ r
-  hex-stops more d is none e = sym (hex-first more ∙ rw (eq-eqb (digitOf (get_or digits i 0) true) 16 (sym is ∙ none)) refl) ∙ e
+  pub hex_stops : i < length digits → (d : ℕ) → d ≡ digit_of (get_or digits i 0) true → d ≡ 16
+      → every is_hex_digit (drop i digits) ≡ r → false ≡ r
+  hex_stops more d is none e = sym (hex_first more ∙ rw (eq-eqb (digit_of (get_or digits i 0) true) 16 (sym is ∙ none)) refl) ∙ e
 
-  pub hex-turn : i < length digits → (d : ℕ) → d ≡ digitOf (get_or digits i 0) true → (d ≡ 16 → ⊥)
-      → every isHexDigit (drop i digits) ≡ r → every isHexDigit (drop (i + 1) digits) ≡ r
-  hex-turn more d is one e = sym (hex-first more ∙ rw (ne_eqb (digitOf (get_or digits i 0) true) 16 (λ z. one (is ∙ z))) refl) ∙ e
+  pub hex_turn : i < length digits → (d : ℕ) → d ≡ digit_of (get_or digits i 0) true → (d ≡ 16 → ⊥)
+      → every is_hex_digit (drop i digits) ≡ r → every is_hex_digit (drop (i + 1) digits) ≡ r
+  hex_turn more d is one e = sym (hex_first more ∙ rw (ne_eqb (digit_of (get_or digits i 0) true) 16 (λ z. one (is ∙ z))) refl) ∙ e
 
-  pub hex-ends : length digits ≤ i → every isHexDigit (drop i digits) ≡ r → true ≡ r
-  hex-ends past e = sym (ap (every isHexDigit) (drop_of_length-le digits {i = i} past)) ∙ e
+  pub hex_ends : length digits ≤ i → every is_hex_digit (drop i digits) ≡ r → true ≡ r
+  hex_ends past e = sym (ap (every is_hex_digit) (drop_of_length-le digits {i = i} past)) ∙ e

@@ -3,11 +3,11 @@
 use Rattle.std.specs.Prelude.{ℕ, ◌+◌, List, [], ◌∷◌, get_or}
 use Rattle.kinds.specs.Choice.{if◌then◌else◌, select}
 use Rattle.events.specs.Event.{POWERON, POWEROFF, LPASTART, TOOSTART, TOOEXPIRED, CALSTATUS, LPASTATUS}
-use Rattle.names.specs.Text.{bytes, sameWord}
+use Rattle.names.specs.Text.{bytes, same_word}
 
 -- the names, one after the other by code; 0 is no event's
-abbrev pub eventNames : List (List ℕ)
-eventNames =
+abbrev pub event_names : List (List ℕ)
+event_names =
     []
     ∷ bytes "STARTED"
     ∷ bytes "MAINFEEDON"
@@ -35,23 +35,23 @@ eventNames =
     ∷ []
 
 -- the name of a code, or nothing
-unfoldable pub eventName : ℕ → List ℕ
-eventName n = get_or eventNames n []
+unfoldable pub event_name : ℕ → List ℕ
+event_name n = get_or event_names n []
 
 -- the place from n on of the first name that a word is, in any case, or 0
-unfoldable pub codeFrom : List ℕ → ℕ → List (List ℕ) → ℕ
-codeFrom w n [] = 0
-codeFrom w n (name ∷ names) = if sameWord w name then n else codeFrom w (n + 1) names
+unfoldable pub code_from : List ℕ → ℕ → List (List ℕ) → ℕ
+code_from w n [] = 0
+code_from w n (name ∷ names) = if same_word w name then n else code_from w (n + 1) names
 
 -- the code of a name, or 0
-unfoldable pub eventCode : List ℕ → ℕ
-eventCode w = codeFrom w 0 eventNames
+unfoldable pub event_code : List ℕ → ℕ
+event_code w = code_from w 0 event_names
 
 -- the codes with which numbers go, and how many
-abbrev pub numbersRows : List (ℕ × ℕ)
-numbersRows =
+abbrev pub numbers_rows : List (ℕ × ℕ)
+numbers_rows =
     (TOOSTART, 2) ∷ (POWERON, 1) ∷ (POWEROFF, 1) ∷ (LPASTART, 1) ∷ (TOOEXPIRED, 1) ∷ (CALSTATUS, 1) ∷ (LPASTATUS, 1) ∷ []
 
 -- how many numbers go with a code
-unfoldable pub eventNumbers : ℕ → ℕ
-eventNumbers n = select n numbersRows 0
+unfoldable pub event_numbers : ℕ → ℕ
+event_numbers n = select n numbers_rows 0

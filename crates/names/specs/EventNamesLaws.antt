@@ -3,115 +3,115 @@
 use Rattle.std.specs.Prelude.{ℕ, ◌+◌, ◌<◌, ◌≤◌, Bool, true, false, List, [], ◌∷◌, ◌≡◌, refl, ltb, length, get_or, drop}
 use Rattle.std.proofs.Common.{◌∙◌, sym, ap, add-one, drop_of_length-le, drop-cons}
 use Rattle.kinds.specs.Choice.{if◌then◌else◌}
-use Rattle.events.specs.Event.{partsOfEvent}
+use Rattle.events.specs.Event.{parts_of_event}
 use Rattle.events.specs.declared.Event.{Event}
-use Rattle.names.specs.Text.{padded, leading, firstWord, sameWord}
-use Rattle.names.specs.EventNames.{eventNames, eventName, codeFrom, eventCode, eventNumbers}
-use Rattle.names.specs.TableLaws.{sameBytes, same_bytes, every-at}
+use Rattle.names.specs.Text.{padded, leading, first_word, same_word}
+use Rattle.names.specs.EventNames.{event_names, event_name, code_from, event_code, event_numbers}
+use Rattle.names.specs.TableLaws.{same_bytes, same_bytes, every_at}
 
 one_word : List ℕ → Bool
-one_word name = sameBytes (firstWord (padded name)) name
+one_word name = same_bytes (first_word (padded name)) name
 
 -- a name is one word, and fits its room
-pub event-word : (n : ℕ) → firstWord (padded (eventName n)) ≡ eventName n
-unfolding eventName one_word sameBytes firstWord leading
-event-word n = same_bytes (firstWord (padded (get_or eventNames n []))) (get_or eventNames n []) (every-at one_word eventNames n [] refl refl)
+pub event_word : (n : ℕ) → first_word (padded (event_name n)) ≡ event_name n
+unfolding event_name one_word same_bytes first_word leading
+event_word n = same_bytes (first_word (padded (get_or event_names n []))) (get_or event_names n []) (every_at one_word event_names n [] refl refl)
 
 -- The search for a name's code -----------------------------------------------------------------------------------------------
 
-here : (w name : List ℕ) (n : ℕ) (names : List (List ℕ)) → sameWord w name ≡ true → codeFrom w n (name ∷ names) ≡ n
-unfolding codeFrom
+here : (w name : List ℕ) (n : ℕ) (names : List (List ℕ)) → same_word w name ≡ true → code_from w n (name ∷ names) ≡ n
+unfolding code_from
 here w name n names same = rw same refl
 
-further : (w name : List ℕ) (n : ℕ) (names : List (List ℕ)) → sameWord w name ≡ false
-    → codeFrom w n (name ∷ names) ≡ codeFrom w (n + 1) names
-unfolding codeFrom
+further : (w name : List ℕ) (n : ℕ) (names : List (List ℕ)) → same_word w name ≡ false
+    → code_from w n (name ∷ names) ≡ code_from w (n + 1) names
+unfolding code_from
 further w name n names other = rw other refl
 
-nowhere : (w : List ℕ) (n : ℕ) → codeFrom w n [] ≡ 0
-unfolding codeFrom
+nowhere : (w : List ℕ) (n : ℕ) → code_from w n [] ≡ 0
+unfolding code_from
 nowhere w n = refl
 
-names-from : (n : ℕ) → n < length eventNames → drop n eventNames ≡ eventName n ∷ drop (n + 1) eventNames
-unfolding eventName
-names-from n more = drop-cons eventNames n [] more ∙ rw (add-one) refl
+names_from : (n : ℕ) → n < length event_names → drop n event_names ≡ event_name n ∷ drop (n + 1) event_names
+unfolding event_name
+names_from n more = drop-cons event_names n [] more ∙ rw (add-one) refl
 
 module _ (w : List ℕ) (n r : ℕ) where
-  pub code-found : n < length eventNames → (d : Bool) → d ≡ sameWord w (eventName n) → d ≡ true
-      → codeFrom w n (drop n eventNames) ≡ r → n ≡ r
-  code-found more d is same e =
-      sym (ap (codeFrom w n) (names-from n more) ∙ here w (eventName n) n (drop (n + 1) eventNames) (sym is ∙ same)) ∙ e
+  pub code_found : n < length event_names → (d : Bool) → d ≡ same_word w (event_name n) → d ≡ true
+      → code_from w n (drop n event_names) ≡ r → n ≡ r
+  code_found more d is same e =
+      sym (ap (code_from w n) (names_from n more) ∙ here w (event_name n) n (drop (n + 1) event_names) (sym is ∙ same)) ∙ e
 
-  pub code-further : n < length eventNames → (d : Bool) → d ≡ sameWord w (eventName n) → d ≡ false
-      → codeFrom w n (drop n eventNames) ≡ r → codeFrom w (n + 1) (drop (n + 1) eventNames) ≡ r
-  code-further more d is other e =
-      sym (ap (codeFrom w n) (names-from n more) ∙ further w (eventName n) n (drop (n + 1) eventNames) (sym is ∙ other)) ∙ e
+  pub code_further : n < length event_names → (d : Bool) → d ≡ same_word w (event_name n) → d ≡ false
+      → code_from w n (drop n event_names) ≡ r → code_from w (n + 1) (drop (n + 1) event_names) ≡ r
+  code_further more d is other e =
+      sym (ap (code_from w n) (names_from n more) ∙ further w (event_name n) n (drop (n + 1) event_names) (sym is ∙ other)) ∙ e
 
-  pub code-none : length eventNames ≤ n → codeFrom w n (drop n eventNames) ≡ r → 0 ≡ r
-  code-none past e = sym (ap (codeFrom w n) (drop_of_length-le eventNames {i = n} past) ∙ nowhere w n) ∙ e
+  pub code_none : length event_names ≤ n → code_from w n (drop n event_names) ≡ r → 0 ≡ r
+  code_none past e = sym (ap (code_from w n) (drop_of_length-le event_names {i = n} past) ∙ nowhere w n) ∙ e
 
-pub code-start : (w : List ℕ) → codeFrom w 0 (drop 0 eventNames) ≡ eventCode w
-unfolding eventCode
-code-start w = refl
+pub code_start : (w : List ℕ) → code_from w 0 (drop 0 event_names) ≡ event_code w
+unfolding event_code
+code_start w = refl
 
 -- What is written is read back -----------------------------------------------------------------------------------------------
 
 -- the name of each event is read as the event's code: no event is left out of the table, and no two share a name
-pub event-name-back : (e : Event) → eventCode (eventName (partsOfEvent e).code) ≡ (partsOfEvent e).code
-unfolding eventName eventCode codeFrom sameWord partsOfEvent
-event-name-back Event.Started = refl
-event-name-back Event.MainFeedOn = refl
-event-name-back (Event.PowerOn mask) = refl
-event-name-back (Event.PowerOff mask) = refl
-event-name-back Event.HoldEnter = refl
-event-name-back Event.HoldExit = refl
-event-name-back Event.SaaEnter = refl
-event-name-back Event.SaaExit = refl
-event-name-back Event.LoadShed = refl
-event-name-back Event.NoOp = refl
-event-name-back Event.CalStart = refl
-event-name-back Event.CalAbort = refl
-event-name-back Event.CalOther = refl
-event-name-back (Event.LpaStart run) = refl
-event-name-back Event.LpaStop = refl
-event-name-back Event.LpaOther = refl
-event-name-back (Event.TooStart run dwell) = refl
-event-name-back Event.TooAbort = refl
-event-name-back (Event.TooExpired armed) = refl
-event-name-back (Event.CalStatus good) = refl
-event-name-back Event.CalComplete = refl
-event-name-back (Event.LpaStatus good) = refl
-event-name-back Event.LpaComplete = refl
+pub event_name_back : (e : Event) → event_code (event_name (parts_of_event e).code) ≡ (parts_of_event e).code
+unfolding event_name event_code code_from same_word parts_of_event
+event_name_back Event.Started = refl
+event_name_back Event.MainFeedOn = refl
+event_name_back (Event.PowerOn mask) = refl
+event_name_back (Event.PowerOff mask) = refl
+event_name_back Event.HoldEnter = refl
+event_name_back Event.HoldExit = refl
+event_name_back Event.SaaEnter = refl
+event_name_back Event.SaaExit = refl
+event_name_back Event.LoadShed = refl
+event_name_back Event.NoOp = refl
+event_name_back Event.CalStart = refl
+event_name_back Event.CalAbort = refl
+event_name_back Event.CalOther = refl
+event_name_back (Event.LpaStart run) = refl
+event_name_back Event.LpaStop = refl
+event_name_back Event.LpaOther = refl
+event_name_back (Event.TooStart run dwell) = refl
+event_name_back Event.TooAbort = refl
+event_name_back (Event.TooExpired armed) = refl
+event_name_back (Event.CalStatus good) = refl
+event_name_back Event.CalComplete = refl
+event_name_back (Event.LpaStatus good) = refl
+event_name_back Event.LpaComplete = refl
 
 -- an event's two numbers, as far as its name takes them; one that it does not take is 0
 abbrev given : ℕ → ℕ → ℕ → ℕ
 given n place number = if ltb place n then number else 0
 
 -- what a name does not take is 0, so that the name and the numbers that it takes are the whole event
-pub event-numbers-whole : (e : Event)
-    → (given (eventNumbers (partsOfEvent e).code) 0 (partsOfEvent e).a ≡ (partsOfEvent e).a)
-    × (given (eventNumbers (partsOfEvent e).code) 1 (partsOfEvent e).b ≡ (partsOfEvent e).b)
-unfolding partsOfEvent eventNumbers
-event-numbers-whole Event.Started = (refl, refl)
-event-numbers-whole Event.MainFeedOn = (refl, refl)
-event-numbers-whole (Event.PowerOn mask) = (refl, refl)
-event-numbers-whole (Event.PowerOff mask) = (refl, refl)
-event-numbers-whole Event.HoldEnter = (refl, refl)
-event-numbers-whole Event.HoldExit = (refl, refl)
-event-numbers-whole Event.SaaEnter = (refl, refl)
-event-numbers-whole Event.SaaExit = (refl, refl)
-event-numbers-whole Event.LoadShed = (refl, refl)
-event-numbers-whole Event.NoOp = (refl, refl)
-event-numbers-whole Event.CalStart = (refl, refl)
-event-numbers-whole Event.CalAbort = (refl, refl)
-event-numbers-whole Event.CalOther = (refl, refl)
-event-numbers-whole (Event.LpaStart run) = (refl, refl)
-event-numbers-whole Event.LpaStop = (refl, refl)
-event-numbers-whole Event.LpaOther = (refl, refl)
-event-numbers-whole (Event.TooStart run dwell) = (refl, refl)
-event-numbers-whole Event.TooAbort = (refl, refl)
-event-numbers-whole (Event.TooExpired armed) = (refl, refl)
-event-numbers-whole (Event.CalStatus good) = (refl, refl)
-event-numbers-whole Event.CalComplete = (refl, refl)
-event-numbers-whole (Event.LpaStatus good) = (refl, refl)
-event-numbers-whole Event.LpaComplete = (refl, refl)
+pub event_numbers-whole : (e : Event)
+    → (given (event_numbers (parts_of_event e).code) 0 (parts_of_event e).a ≡ (parts_of_event e).a)
+    × (given (event_numbers (parts_of_event e).code) 1 (parts_of_event e).b ≡ (parts_of_event e).b)
+unfolding parts_of_event event_numbers
+event_numbers-whole Event.Started = (refl, refl)
+event_numbers-whole Event.MainFeedOn = (refl, refl)
+event_numbers-whole (Event.PowerOn mask) = (refl, refl)
+event_numbers-whole (Event.PowerOff mask) = (refl, refl)
+event_numbers-whole Event.HoldEnter = (refl, refl)
+event_numbers-whole Event.HoldExit = (refl, refl)
+event_numbers-whole Event.SaaEnter = (refl, refl)
+event_numbers-whole Event.SaaExit = (refl, refl)
+event_numbers-whole Event.LoadShed = (refl, refl)
+event_numbers-whole Event.NoOp = (refl, refl)
+event_numbers-whole Event.CalStart = (refl, refl)
+event_numbers-whole Event.CalAbort = (refl, refl)
+event_numbers-whole Event.CalOther = (refl, refl)
+event_numbers-whole (Event.LpaStart run) = (refl, refl)
+event_numbers-whole Event.LpaStop = (refl, refl)
+event_numbers-whole Event.LpaOther = (refl, refl)
+event_numbers-whole (Event.TooStart run dwell) = (refl, refl)
+event_numbers-whole Event.TooAbort = (refl, refl)
+event_numbers-whole (Event.TooExpired armed) = (refl, refl)
+event_numbers-whole (Event.CalStatus good) = (refl, refl)
+event_numbers-whole Event.CalComplete = (refl, refl)
+event_numbers-whole (Event.LpaStatus good) = (refl, refl)
+event_numbers-whole Event.LpaComplete = (refl, refl)

@@ -8,39 +8,39 @@ use Rattle.kinds.specs.declared.too_state.TooState.{TooState}
 use Rattle.kinds.specs.declared.status.Status.{Status}
 use Rattle.names.specs.Text.{bytes}
 
-abbrev pub modeName : Mode → List ℕ
-modeName Mode.Boot = bytes "BOOT"
-modeName Mode.Terminal = bytes "TERMINAL"
-modeName Mode.Quiescent = bytes "QUIESCENT"
-modeName Mode.Hold = bytes "HOLD"
-modeName Mode.Calibration = bytes "CALIBRATION"
-modeName Mode.Physics = bytes "PHYSICS"
-modeName Mode.Too = bytes "TOO"
+abbrev pub mode_name : Mode → List ℕ
+mode_name Mode.Boot = bytes "BOOT"
+mode_name Mode.Terminal = bytes "TERMINAL"
+mode_name Mode.Quiescent = bytes "QUIESCENT"
+mode_name Mode.Hold = bytes "HOLD"
+mode_name Mode.Calibration = bytes "CALIBRATION"
+mode_name Mode.Physics = bytes "PHYSICS"
+mode_name Mode.Too = bytes "TOO"
 
-abbrev pub taskName : Task → List ℕ
-taskName Task.Idle = bytes "IDLE"
-taskName Task.Running = bytes "RUNNING"
-taskName Task.Stopping = bytes "STOPPING"
+abbrev pub task_name : Task → List ℕ
+task_name Task.Idle = bytes "IDLE"
+task_name Task.Running = bytes "RUNNING"
+task_name Task.Stopping = bytes "STOPPING"
 
-abbrev pub lpaModeName : LpaMode → List ℕ
-lpaModeName LpaMode.Normal = bytes "NORMAL"
-lpaModeName LpaMode.Too = bytes "TOO"
+abbrev pub lpa_mode_name : LpaMode → List ℕ
+lpa_mode_name LpaMode.Normal = bytes "NORMAL"
+lpa_mode_name LpaMode.Too = bytes "TOO"
 
-abbrev pub tooStateName : TooState → List ℕ
-tooStateName TooState.None = bytes "NONE"
-tooStateName TooState.Waiting = bytes "WAITING"
-tooStateName TooState.Started = bytes "STARTED"
+abbrev pub too_state_name : TooState → List ℕ
+too_state_name TooState.None = bytes "NONE"
+too_state_name TooState.Waiting = bytes "WAITING"
+too_state_name TooState.Started = bytes "STARTED"
 
-abbrev pub statusName : Status → List ℕ
-statusName Status.Success = bytes "SUCCESS"
-statusName Status.PktSent = bytes "PKTSENT"
-statusName Status.Fwd = bytes "FWD"
-statusName Status.NotRun = bytes "NOTRUN"
-statusName Status.BadMode = bytes "BADMODE"
-statusName Status.TooAct = bytes "TOOACT"
-statusName Status.BadParam = bytes "BADPARAM"
-statusName Status.Saa = bytes "SAA"
-statusName Status.OthRun = bytes "OTHRUN"
-statusName Status.OthStop = bytes "OTHSTOP"
-statusName Status.OthIdle = bytes "OTHIDLE"
-statusName Status.Stale = bytes "STALE"
+abbrev pub status_name : Status → List ℕ
+status_name Status.Success = bytes "SUCCESS"
+status_name Status.PktSent = bytes "PKTSENT"
+status_name Status.Fwd = bytes "FWD"
+status_name Status.NotRun = bytes "NOTRUN"
+status_name Status.BadMode = bytes "BADMODE"
+status_name Status.TooAct = bytes "TOOACT"
+status_name Status.BadParam = bytes "BADPARAM"
+status_name Status.Saa = bytes "SAA"
+status_name Status.OthRun = bytes "OTHRUN"
+status_name Status.OthStop = bytes "OTHSTOP"
+status_name Status.OthIdle = bytes "OTHIDLE"
+status_name Status.Stale = bytes "STALE"

@@ -2,10 +2,10 @@
 -- Assumes nothing.
 use Rattle.std.specs.Prelude.{ℕ, ◌<◌, Bool, true, ◌&&◌, List, [], map, ◌≡◌, refl, ltb, get_or, length}
 use borrow.Author.Tests.{ltb-true}
-use Rattle.kinds.specs.ChoiceLaws.{Kind, kind-every, and_left, and_right}
-use Rattle.kinds.specs.Kinds.{modeNumber, modes, taskNumber, tasks, lpaModeNumber, lpaModes}
-use Rattle.kinds.specs.Kinds.{tooStateNumber, tooStates, statusNumber, statuses}
-use Rattle.kinds.specs.KindsLaws.{mode-every, task-every, lpa-mode-every, too-state-every, status-back}
+use Rattle.kinds.specs.ChoiceLaws.{Kind, kind_every, and_left, and_right}
+use Rattle.kinds.specs.Kinds.{mode_number, modes, task_number, tasks, lpa_mode_number, lpa_modes}
+use Rattle.kinds.specs.Kinds.{too_state_number, too_states, status_number, statuses}
+use Rattle.kinds.specs.KindsLaws.{mode_every, task_every, lpa_mode_every, too_state_every, status_back}
 use Rattle.kinds.specs.declared.mode.Mode.{Mode}
 use Rattle.kinds.specs.declared.task.Task.{Task}
 use Rattle.kinds.specs.declared.lpa_mode.LpaMode.{LpaMode}
@@ -13,8 +13,8 @@ use Rattle.kinds.specs.declared.too_state.TooState.{TooState}
 use Rattle.kinds.specs.declared.status.Status.{Status}
 use Rattle.kinds.specs.declared.status.FoundStatus.{FoundStatus}
 use Rattle.names.specs.Text.{padded}
-use Rattle.names.specs.TableLaws.{sameBytes, same_bytes}
-use Rattle.names.specs.Names.{modeName, taskName, lpaModeName, tooStateName, statusName}
+use Rattle.names.specs.TableLaws.{same_bytes, same_bytes}
+use Rattle.names.specs.Names.{mode_name, task_name, lpa_mode_name, too_state_name, status_name}
 
 module _ {A : Type 0} (number : A → ℕ) (name : A → List ℕ) (xs : List A) where
   -- the names of the listed, one after the other
@@ -22,40 +22,40 @@ module _ {A : Type 0} (number : A → ℕ) (name : A → List ℕ) (xs : List A)
   rows = map (λ x. padded (name x)) xs
 
   placed : A → Bool
-  placed x = ltb (number x) (length xs) && sameBytes (get_or rows (number x) []) (padded (name x))
+  placed x = ltb (number x) (length xs) && same_bytes (get_or rows (number x) []) (padded (name x))
 
   -- the number of a thing is a place of the table, and its name stands there
   abbrev Placed : A → Type 0
   Placed x = (n : ℕ) → n ≡ number x → (n < length xs) × (get_or rows n [] ≡ padded (name x))
 
-  is-placed : (x : A) → placed x ≡ true → Placed x
+  is_placed : (x : A) → placed x ≡ true → Placed x
   unfolding placed
-  is-placed x passed n is =
+  is_placed x passed n is =
       rw is (
-        ltb-true (number x) (length xs) (and_left (ltb (number x) (length xs)) (sameBytes (get_or rows (number x) []) (padded (name x))) passed),
+        ltb-true (number x) (length xs) (and_left (ltb (number x) (length xs)) (same_bytes (get_or rows (number x) []) (padded (name x))) passed),
         same_bytes (get_or rows (number x) []) (padded (name x))
-            (and_right (ltb (number x) (length xs)) (sameBytes (get_or rows (number x) []) (padded (name x))) passed),
+            (and_right (ltb (number x) (length xs)) (same_bytes (get_or rows (number x) []) (padded (name x))) passed),
       )
 
-pub mode-placed : (m : Mode) → Placed modeNumber modeName modes m
-unfolding placed sameBytes
-mode-placed m = is-placed modeNumber modeName modes m (mode-every (placed modeNumber modeName modes) refl m)
+pub mode_placed : (m : Mode) → Placed mode_number mode_name modes m
+unfolding placed same_bytes
+mode_placed m = is_placed mode_number mode_name modes m (mode_every (placed mode_number mode_name modes) refl m)
 
-pub task-placed : (t : Task) → Placed taskNumber taskName tasks t
-unfolding placed sameBytes
-task-placed t = is-placed taskNumber taskName tasks t (task-every (placed taskNumber taskName tasks) refl t)
+pub task_placed : (t : Task) → Placed task_number task_name tasks t
+unfolding placed same_bytes
+task_placed t = is_placed task_number task_name tasks t (task_every (placed task_number task_name tasks) refl t)
 
-pub lpa-mode-placed : (m : LpaMode) → Placed lpaModeNumber lpaModeName lpaModes m
-unfolding placed sameBytes
-lpa-mode-placed m = is-placed lpaModeNumber lpaModeName lpaModes m (lpa-mode-every (placed lpaModeNumber lpaModeName lpaModes) refl m)
+pub lpa_mode_placed : (m : LpaMode) → Placed lpa_mode_number lpa_mode_name lpa_modes m
+unfolding placed same_bytes
+lpa_mode_placed m = is_placed lpa_mode_number lpa_mode_name lpa_modes m (lpa_mode_every (placed lpa_mode_number lpa_mode_name lpa_modes) refl m)
 
-pub too-state-placed : (t : TooState) → Placed tooStateNumber tooStateName tooStates t
-unfolding placed sameBytes
-too-state-placed t = is-placed tooStateNumber tooStateName tooStates t (too-state-every (placed tooStateNumber tooStateName tooStates) refl t)
+pub too_state_placed : (t : TooState) → Placed too_state_number too_state_name too_states t
+unfolding placed same_bytes
+too_state_placed t = is_placed too_state_number too_state_name too_states t (too_state_every (placed too_state_number too_state_name too_states) refl t)
 
-status-kind : Kind statusNumber FoundStatus.Found FoundStatus.Unknown statuses
-status-kind = record { same = λ x y e. cc; apart = λ x e. cc; back = status-back }
+status_kind : Kind status_number FoundStatus.Found FoundStatus.Unknown statuses
+status_kind = record { same = λ x y e. cc; apart = λ x e. cc; back = status_back }
 
-pub status-placed : (s : Status) → Placed statusNumber statusName statuses s
-unfolding placed sameBytes
-status-placed s = is-placed statusNumber statusName statuses s (kind-every status-kind (placed statusNumber statusName statuses) refl s)
+pub status_placed : (s : Status) → Placed status_number status_name statuses s
+unfolding placed same_bytes
+status_placed s = is_placed status_number status_name statuses s (kind_every status_kind (placed status_number status_name statuses) refl s)

@@ -20,34 +20,34 @@ WORD = 12
 abbrev pub padded : List ℕ → List ℕ
 padded name = take WORD (name ++ replicate WORD (code " "))
 
-abbrev pub isSeparator : ℕ → Bool
-isSeparator b = eqb b (code " ") || eqb b (code "\t") || eqb b (code "\r") || eqb b (code ",")
+abbrev pub is_separator : ℕ → Bool
+is_separator b = eqb b (code " ") || eqb b (code "\t") || eqb b (code "\r") || eqb b (code ",")
 
 -- whether a byte ends a run of separators, or of bytes that are none
 abbrev pub ends : ℕ → Bool → Bool
-ends b separators = if separators then not (isSeparator b) else isSeparator b
+ends b separators = if separators then not (is_separator b) else is_separator b
 
 -- how many bytes at the start of a text are separators, or are none
 unfoldable pub leading : Bool → List ℕ → ℕ
 leading separators [] = 0
 leading separators (b ∷ bs) = if ends b separators then 0 else leading separators bs + 1
 
-unfoldable pub firstWord : List ℕ → List ℕ
-firstWord t = take (leading false t) t
+unfoldable pub first_word : List ℕ → List ℕ
+first_word t = take (leading false t) t
 
-unfoldable pub afterSeparators : List ℕ → List ℕ
-afterSeparators t = drop (leading true t) t
+unfoldable pub after_separators : List ℕ → List ℕ
+after_separators t = drop (leading true t) t
 
 -- what stands after the first word and the separators that end it
-unfoldable pub afterWord : List ℕ → List ℕ
-afterWord t = afterSeparators (drop (leading false t) t)
+unfoldable pub after_word : List ℕ → List ℕ
+after_word t = after_separators (drop (leading false t) t)
 
 abbrev pub upper : ℕ → ℕ
 upper b = if ltb b (code "a") then b else if ltb (code "z") b then b else b - 32
 
 -- whether a word is a name, in any case
-unfoldable pub sameWord : List ℕ → List ℕ → Bool
-sameWord [] [] = true
-sameWord [] (y ∷ ys) = false
-sameWord (x ∷ xs) [] = false
-sameWord (x ∷ xs) (y ∷ ys) = if eqb (upper x) y then sameWord xs ys else false
+unfoldable pub same_word : List ℕ → List ℕ → Bool
+same_word [] [] = true
+same_word [] (y ∷ ys) = false
+same_word (x ∷ xs) [] = false
+same_word (x ∷ xs) (y ∷ ys) = if eqb (upper x) y then same_word xs ys else false

@@ -1,6 +1,6 @@
 // The columns of a state in what the programs print: the head of each, and the numbers under it (State).
 ghost use Rattle.std.specs.Prelude.{◌≡◌};
-ghost use Rattle.names.specs.Columns.{deskColumns, listingColumns};
+ghost use Rattle.names.specs.Columns.{desk_columns, listing_columns};
 
 use kinds::flag;
 use state::State;
@@ -10,7 +10,7 @@ pub const DESK_HEAD: [u8; 41] = *b"mode lci lpa lpm saa lciw lpaw too arm ev";
 pub const LISTING_HEAD: [u8; 24] = *b"mode lci lpa saa too arm";
 
 pub fn desk_columns(state: State) -> [u32; 10]
-    ensures { result ≡ deskColumns state }
+    ensures { result ≡ desk_columns state }
 {
     let mode = state.mode;
     let lci = state.lci;
@@ -32,7 +32,7 @@ pub fn desk_columns(state: State) -> [u32; 10]
 }
 
 pub fn listing_columns(state: State) -> [u32; 6]
-    ensures { result ≡ listingColumns state }
+    ensures { result ≡ listing_columns state }
 {
     let mode = state.mode;
     let lci = state.lci;

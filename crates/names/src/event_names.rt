@@ -1,7 +1,7 @@
 // The names of the events and how many numbers go with each (Events). One table serves both ways: a code's name, and a name's code.
 ghost use Rattle.std.specs.Prelude.{◌≡◌};
-ghost use Rattle.names.specs.Text.{padded, sameWord};
-ghost use Rattle.names.specs.EventNames.{eventName, eventCode, eventNumbers};
+ghost use Rattle.names.specs.Text.{padded, same_word};
+ghost use Rattle.names.specs.EventNames.{event_name, event_code, event_numbers};
 
 use crate::text::{WORD, first_word, same_word};
 use events::Event;
@@ -42,7 +42,7 @@ const NAMES: [[u8; WORD]; CODES as usize] = [
 
 // The name of an event's code, or no letter where it is no code.
 pub fn event(code: u16) -> [u8; WORD]
-    ensures { result ≡ padded (eventName code) }
+    ensures { result ≡ padded (event_name code) }
 {
     if code < CODES {
         NAMES[code as usize]
@@ -53,7 +53,7 @@ pub fn event(code: u16) -> [u8; WORD]
 
 // The code of an event's name, in any case, or UNKNOWN.
 pub fn event_code(name: &[u8]) -> u16
-    ensures { result ≡ eventCode name.now }
+    ensures { result ≡ event_code name.now }
 {
     let mut code = UNKNOWN;
     while code < CODES {
@@ -66,7 +66,7 @@ pub fn event_code(name: &[u8]) -> u16
 }
 
 fn is_name(name: &[u8], code: u16) -> bool
-    ensures { result ≡ sameWord name.now (eventName code) }
+    ensures { result ≡ same_word name.now (event_name code) }
 {
     let row = event(code);
     same_word(name, first_word(&row))
@@ -74,7 +74,7 @@ fn is_name(name: &[u8], code: u16) -> bool
 
 // How many numbers go with an event, by its code.
 pub fn event_numbers(code: u16) -> u8
-    ensures { result ≡ eventNumbers code }
+    ensures { result ≡ event_numbers code }
 {
     match code {
         Event::TOOSTART => 2,

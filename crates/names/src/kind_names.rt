@@ -2,7 +2,7 @@
 // kind's numbers.
 ghost use Rattle.std.specs.Prelude.{◌≡◌};
 ghost use Rattle.names.specs.Text.{padded};
-ghost use Rattle.names.specs.Names.{modeName, taskName, lpaModeName, tooStateName, statusName};
+ghost use Rattle.names.specs.Names.{mode_name, task_name, lpa_mode_name, too_state_name, status_name};
 
 use crate::text::WORD;
 use kinds::{LpaMode, Mode, Status, Task, TooState};
@@ -39,31 +39,31 @@ const STATUSES: [[u8; WORD]; 12] = [
 ];
 
 pub fn mode(mode: Mode) -> [u8; WORD]
-    ensures { result ≡ padded (modeName mode) }
+    ensures { result ≡ padded (mode_name mode) }
 {
     MODES[mode.number() as usize]
 }
 
 pub fn task(task: Task) -> [u8; WORD]
-    ensures { result ≡ padded (taskName task) }
+    ensures { result ≡ padded (task_name task) }
 {
     TASKS[task.number() as usize]
 }
 
 pub fn lpa_mode(mode: LpaMode) -> [u8; WORD]
-    ensures { result ≡ padded (lpaModeName mode) }
+    ensures { result ≡ padded (lpa_mode_name mode) }
 {
     LPA_MODES[mode.number() as usize]
 }
 
 pub fn too_state(too: TooState) -> [u8; WORD]
-    ensures { result ≡ padded (tooStateName too) }
+    ensures { result ≡ padded (too_state_name too) }
 {
     TOO_STATES[too.number() as usize]
 }
 
 pub fn status(status: Status) -> [u8; WORD]
-    ensures { result ≡ padded (statusName status) }
+    ensures { result ≡ padded (status_name status) }
 {
     STATUSES[status.number() as usize]
 }

@@ -3,19 +3,19 @@ ghost use Rattle.std.specs.Prelude.{◌<◌, ◌≡◌, length};
 ghost use Rattle.kinds.specs.Choice.{every};
 ghost use Rattle.names.specs.Line.{
   line_of,
-  noLine,
-  wrongLine,
-  numberedLine,
-  firstNumber,
-  secondNumber,
-  madeLine,
+  no_line,
+  wrong_line,
+  numbered_line,
+  first_number,
+  second_number,
+  made_line,
   words_in,
   number_of,
-  expectedAfter,
-  rawLine,
-  isHexDigit,
-  rawBytes,
-  rawByte,
+  expected_after,
+  raw_line,
+  is_hex_digit,
+  raw_bytes,
+  raw_byte,
 };
 
 use crate::event_names::{UNKNOWN, event_code, event_numbers};
@@ -73,7 +73,7 @@ pub fn read_line(text: &[u8]) -> Line
 }
 
 fn nothing() -> Line
-    ensures { result ≡ noLine }
+    ensures { result ≡ no_line }
 {
     Line {
         content: Content::Nothing,
@@ -82,7 +82,7 @@ fn nothing() -> Line
 }
 
 fn wrong(expected: Expected) -> Line
-    ensures { result ≡ wrongLine expected }
+    ensures { result ≡ wrong_line expected }
 {
     Line {
         content: Content::Wrong(expected),
@@ -92,7 +92,7 @@ fn wrong(expected: Expected) -> Line
 
 // The numbers that stand after an event's name.
 fn numbered(code: u16, text: &[u8]) -> Line
-    ensures { result ≡ numberedLine code text.now }
+    ensures { result ≡ numbered_line code text.now }
 {
     if words_in(text) != event_numbers(code) {
         return wrong(expected_after(code));
@@ -130,7 +130,7 @@ fn number_of(word: &[u8]) -> Parsed
 }
 
 fn first_number(code: u16, first: Parsed, second: Parsed) -> Line
-    ensures { result ≡ firstNumber code first second }
+    ensures { result ≡ first_number code first second }
 {
     match first {
         Parsed::Number(a) => second_number(code, a, second),
@@ -140,7 +140,7 @@ fn first_number(code: u16, first: Parsed, second: Parsed) -> Line
 }
 
 fn second_number(code: u16, a: u32, second: Parsed) -> Line
-    ensures { result ≡ secondNumber code a second }
+    ensures { result ≡ second_number code a second }
 {
     match second {
         Parsed::Number(b) => made(code, a, b),
@@ -150,7 +150,7 @@ fn second_number(code: u16, a: u32, second: Parsed) -> Line
 }
 
 fn made(code: u16, a: u32, b: u32) -> Line
-    ensures { result ≡ madeLine code a b }
+    ensures { result ≡ made_line code a b }
 {
     let found = Event::of(EventParts {
         code,
@@ -168,7 +168,7 @@ fn made(code: u16, a: u32, b: u32) -> Line
 }
 
 fn expected_after(code: u16) -> Expected
-    ensures { result ≡ expectedAfter code }
+    ensures { result ≡ expected_after code }
 {
     if code == Event::CALSTATUS {
         return Expected::Report;
@@ -188,7 +188,7 @@ fn expected_after(code: u16) -> Expected
 
 // The bytes as they are.
 fn raw(text: &[u8]) -> Line
-    ensures { result ≡ rawLine text.now }
+    ensures { result ≡ raw_line text.now }
 {
     if after_word(text).len() != 0 {
         return wrong(Expected::Raw);
@@ -207,7 +207,7 @@ fn raw(text: &[u8]) -> Line
 }
 
 fn all_hex(digits: &[u8]) -> bool
-    ensures { result ≡ every isHexDigit digits.now }
+    ensures { result ≡ every is_hex_digit digits.now }
 {
     let mut i: usize = 0;
     while i < digits.len() {
@@ -221,7 +221,7 @@ fn all_hex(digits: &[u8]) -> bool
 
 fn raw_bytes(digits: &[u8]) -> [u8; EVENT]
     requires { length digits.now ≡ 24 }
-    ensures { result ≡ rawBytes digits.now }
+    ensures { result ≡ raw_bytes digits.now }
 {
     [
         raw_byte(digits, 0),
@@ -243,7 +243,7 @@ fn raw_bytes(digits: &[u8]) -> [u8; EVENT]
 fn raw_byte(digits: &[u8], k: usize) -> u8
     requires digits_len { length digits.now ≡ 24 }
     requires k_bound { k < 12 }
-    ensures { result ≡ rawByte digits.now k }
+    ensures { result ≡ raw_byte digits.now k }
 {
     let high = terminal::digit(digits[2 * k], true);
     let low = terminal::digit(digits[2 * k + 1], true);

@@ -1,13 +1,13 @@
 // The words of a line: what stands between spaces, tabs, commas and returns.
 ghost use Rattle.std.specs.Prelude.{◌≤◌, ◌≡◌, length};
-ghost use Rattle.names.specs.Text.{isSeparator, ends, leading, firstWord, afterSeparators, afterWord, upper, sameWord};
+ghost use Rattle.names.specs.Text.{is_separator, ends, leading, first_word, after_separators, after_word, upper, same_word};
 
 // The room of a name: its letters, filled up with spaces.
 pub const WORD: usize = 12;
 
 // The word at the start of a text, or nothing where a separator stands there.
 pub fn first_word(text: &[u8]) -> &[u8]
-    ensures { result.now ≡ firstWord text.now }
+    ensures { result.now ≡ first_word text.now }
 {
     let end = leading(text, false);
     &text[..end]
@@ -15,14 +15,14 @@ pub fn first_word(text: &[u8]) -> &[u8]
 
 // What stands after the word at the start of a text and the separators that end it.
 pub fn after_word(text: &[u8]) -> &[u8]
-    ensures { result.now ≡ afterWord text.now }
+    ensures { result.now ≡ after_word text.now }
 {
     let end = leading(text, false);
     after_separators(&text[end..])
 }
 
 pub fn after_separators(text: &[u8]) -> &[u8]
-    ensures { result.now ≡ afterSeparators text.now }
+    ensures { result.now ≡ after_separators text.now }
 {
     let end = leading(text, true);
     &text[end..]
@@ -55,14 +55,14 @@ fn ends(b: u8, separators: bool) -> bool
 }
 
 fn is_separator(b: u8) -> bool
-    ensures { result ≡ isSeparator b }
+    ensures { result ≡ is_separator b }
 {
     (b == b' ') | (b == b'\t') | (b == b'\r') | (b == b',')
 }
 
 // Whether a word is a name, in any case.
 pub(crate) fn same_word(word: &[u8], name: &[u8]) -> bool
-    ensures { result ≡ sameWord word.now name.now }
+    ensures { result ≡ same_word word.now name.now }
 {
     if word.len() != name.len() {
         return false;

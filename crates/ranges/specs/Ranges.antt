@@ -3,23 +3,23 @@
 use Rattle.std.specs.Prelude.{ℕ, Bool, not, ◌&&◌, ◌||◌, eqb, leb}
 
 -- the two waits, in seconds, and the one alert
-abbrev pub WAIT-SHORT : ℕ
-WAIT-SHORT = 1
+abbrev pub wait_short : ℕ
+wait_short = 1
 
-abbrev pub WAIT-LONG : ℕ
-WAIT-LONG = 5
+abbrev pub wait_long : ℕ
+wait_long = 5
 
-abbrev pub ALERT-SHED : ℕ
-ALERT-SHED = 0x346
+abbrev pub alert_shed : ℕ
+alert_shed = 0x346
 
-abbrev pub dwellInRange : ℕ → Bool
-dwellInRange n = leb 1 n && leb n 86_400
+abbrev pub dwell_in_range : ℕ → Bool
+dwell_in_range n = leb 1 n && leb n 86_400
 
-abbrev pub maskInRange : ℕ → Bool
-maskInRange n = not (eqb n 0)
+abbrev pub mask_in_range : ℕ → Bool
+mask_in_range n = not (eqb n 0)
 
-abbrev pub waitInRange : ℕ → Bool
-waitInRange n = eqb n WAIT-SHORT || eqb n WAIT-LONG
+abbrev pub wait_in_range : ℕ → Bool
+wait_in_range n = eqb n wait_short || eqb n wait_long
 
-abbrev pub alertInRange : ℕ → Bool
-alertInRange n = eqb n ALERT-SHED
+abbrev pub alert_in_range : ℕ → Bool
+alert_in_range n = eqb n alert_shed

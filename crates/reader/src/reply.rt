@@ -1,6 +1,6 @@
 // What the reader answers, and the numbers of its answers (The ground reader).
 ghost use Rattle.std.specs.Prelude.{◌≡◌};
-ghost use Rattle.reader.specs.Reader.{replyNumber};
+ghost use Rattle.reader.specs.Reader.{reply_number};
 
 use crate::Reader;
 
@@ -38,7 +38,7 @@ impl Reply {
     pub const RSTATE: u16 = 6;
 
     pub fn number(self) -> u16
-        ensures { result ≡ replyNumber self }
+        ensures { result ≡ reply_number self }
     {
         match self {
             Reply::Applied => Reply::APPLIED,

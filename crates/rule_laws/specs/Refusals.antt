@@ -3,19 +3,19 @@
 -- Assumes nothing.
 use Rattle.std.specs.Prelude.{ℕ, ◌+◌, Bool, true, not, ◌&&◌, List, [], ◌∷◌, leb}
 use Rattle.kinds.specs.Choice.{◌⇒◌}
-use Rattle.kinds.specs.Kinds.{statusIs, refusalPlace, isRefusal}
+use Rattle.kinds.specs.Kinds.{status_is, refusal_place, is_refusal}
 use Rattle.kinds.specs.declared.status.Status.{Status}
 use Rattle.state.specs.declared.State.{State}
 use Rattle.events.specs.declared.Event.{Event}
-use Rattle.rules.specs.Rules.{ruleOf, unheard}
+use Rattle.rules.specs.Rules.{rule_of, unheard}
 
-abbrev pub refusalsOf : State → Event → List (Status × Bool)
-refusalsOf s e = (Status.NotRun, unheard s e) ∷ (ruleOf s e).refusals
+abbrev pub refusals_of : State → Event → List (Status × Bool)
+refusals_of s e = (Status.NotRun, unheard s e) ∷ (rule_of s e).refusals
 
 -- refusals that stand in their order, from a place on
-abbrev pub inOrder : ℕ → List (Status × Bool) → Bool
-inOrder from [] = true
-inOrder from (x ∷ xs) = isRefusal x.0 && (leb from (refusalPlace x.0) && inOrder (refusalPlace x.0 + 1) xs)
+abbrev pub in_order : ℕ → List (Status × Bool) → Bool
+in_order from [] = true
+in_order from (x ∷ xs) = is_refusal x.0 && (leb from (refusal_place x.0) && in_order (refusal_place x.0 + 1) xs)
 
 abbrev pub met : Status × Bool → Bool
 met x = x.1
@@ -24,9 +24,9 @@ abbrev pub unmet : Status × Bool → Bool
 unmet x = not (met x)
 
 -- the condition holds, and the refusal is this one
-abbrev pub metAs : Status → Status × Bool → Bool
-metAs status x = statusIs x.0 status && met x
+abbrev pub met_as : Status → Status × Bool → Bool
+met_as status x = status_is x.0 status && met x
 
 -- where the condition holds, the refusal is not looked for before this one
-abbrev pub metFrom : Status → Status × Bool → Bool
-metFrom status x = met x ⇒ leb (refusalPlace status) (refusalPlace x.0)
+abbrev pub met_from : Status → Status × Bool → Bool
+met_from status x = met x ⇒ leb (refusal_place status) (refusal_place x.0)

@@ -3,7 +3,7 @@
 -- Assumes nothing.
 use Rattle.std.specs.Prelude.{Bool, true, false, not, ◌&&◌, ◌||◌, List, [], ◌∷◌, ◌++◌}
 use Rattle.kinds.specs.Choice.{if◌then◌else◌}
-use Rattle.kinds.specs.Kinds.{modeIs, taskIs, tooStateIs}
+use Rattle.kinds.specs.Kinds.{mode_is, task_is, too_state_is}
 use Rattle.kinds.specs.declared.mode.Mode.{Mode}
 use Rattle.kinds.specs.declared.task.Task.{Task}
 use Rattle.kinds.specs.declared.too_state.TooState.{TooState}
@@ -11,7 +11,7 @@ use Rattle.kinds.specs.declared.status.Status.{Status}
 use Rattle.state.specs.declared.State.{State}
 use Rattle.records.specs.declared.Record.{Record}
 
--- the refusals with their conditions, in the order in which they are looked for (`refusalOrder`); else the status and the records, but for the closing STATUS
+-- the refusals with their conditions, in the order in which they are looked for (`refusal_order`); else the status and the records, but for the closing STATUS
 pub record Rule : Type 0 where
   pub refusals : List (Status × Bool)
   pub status : Status
@@ -34,25 +34,25 @@ decide r = unless r.refusals (verdict r.status r.records)
 
 -- conditions
 
-abbrev pub inMode : State → Mode → Bool
-inMode s m = modeIs s.mode m
+abbrev pub in_mode : State → Mode → Bool
+in_mode s m = mode_is s.mode m
 
-abbrev pub lciIs : State → Task → Bool
-lciIs s t = taskIs s.lci t
+abbrev pub lci_is : State → Task → Bool
+lci_is s t = task_is s.lci t
 
-abbrev pub lpaIs : State → Task → Bool
-lpaIs s t = taskIs s.lpa t
+abbrev pub lpa_is : State → Task → Bool
+lpa_is s t = task_is s.lpa t
 
-abbrev pub tooIs : State → TooState → Bool
-tooIs s t = tooStateIs s.too t
+abbrev pub too_is : State → TooState → Bool
+too_is s t = too_state_is s.too t
 
 -- sections
 
-abbrev pub stopCalibration : State → List Record
-stopCalibration s = if lciIs s Task.Running then Record.CalAbort ∷ Record.LciState Task.Stopping ∷ [] else []
+abbrev pub stop_calibration : State → List Record
+stop_calibration s = if lci_is s Task.Running then Record.CalAbort ∷ Record.LciState Task.Stopping ∷ [] else []
 
-abbrev pub stopPhysics : State → List Record
-stopPhysics s = if lpaIs s Task.Running then Record.LpaStop ∷ Record.LpaState Task.Stopping ∷ [] else []
+abbrev pub stop_physics : State → List Record
+stop_physics s = if lpa_is s Task.Running then Record.LpaStop ∷ Record.LpaState Task.Stopping ∷ [] else []
 
-abbrev pub endToo : State → List Record
-endToo s = if inMode s Mode.Too then Record.TooTimerStop ∷ Record.TooState TooState.None ∷ [] else []
+abbrev pub end_too : State → List Record
+end_too s = if in_mode s Mode.Too then Record.TooTimerStop ∷ Record.TooState TooState.None ∷ [] else []

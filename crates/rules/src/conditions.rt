@@ -1,6 +1,6 @@
 // What the rules ask of a state, and the sections of records that several of them share (Mode rules).
 ghost use Rattle.std.specs.Prelude.{◌≡◌};
-ghost use Rattle.rules.specs.Rule.{inMode, lciIs, lpaIs, tooIs, stopCalibration, stopPhysics, endToo};
+ghost use Rattle.rules.specs.Rule.{in_mode, lci_is, lpa_is, too_is, stop_calibration, stop_physics, end_too};
 ghost use Rattle.draft.specs.Draft.{emits};
 
 use draft::Draft;
@@ -9,35 +9,35 @@ use records::Record;
 use state::State;
 
 pub fn in_mode(s: State, other: Mode) -> bool
-    ensures { result ≡ inMode s other }
+    ensures { result ≡ in_mode s other }
 {
     let mode = s.mode;
     mode.is(other)
 }
 
 pub fn lci_is(s: State, other: Task) -> bool
-    ensures { result ≡ lciIs s other }
+    ensures { result ≡ lci_is s other }
 {
     let lci = s.lci;
     lci.is(other)
 }
 
 pub fn lpa_is(s: State, other: Task) -> bool
-    ensures { result ≡ lpaIs s other }
+    ensures { result ≡ lpa_is s other }
 {
     let lpa = s.lpa;
     lpa.is(other)
 }
 
 pub fn too_is(s: State, other: TooState) -> bool
-    ensures { result ≡ tooIs s other }
+    ensures { result ≡ too_is s other }
 {
     let too = s.too;
     too.is(other)
 }
 
 pub fn stop_calibration(s: State, draft: Draft) -> Draft
-    ensures { result ≡ emits draft (stopCalibration s) }
+    ensures { result ≡ emits draft (stop_calibration s) }
 {
     if lci_is(s, Task::Running) {
         return draft
@@ -48,7 +48,7 @@ pub fn stop_calibration(s: State, draft: Draft) -> Draft
 }
 
 pub fn stop_physics(s: State, draft: Draft) -> Draft
-    ensures { result ≡ emits draft (stopPhysics s) }
+    ensures { result ≡ emits draft (stop_physics s) }
 {
     if lpa_is(s, Task::Running) {
         return draft
@@ -59,7 +59,7 @@ pub fn stop_physics(s: State, draft: Draft) -> Draft
 }
 
 pub fn end_too(s: State, draft: Draft) -> Draft
-    ensures { result ≡ emits draft (endToo s) }
+    ensures { result ≡ emits draft (end_too s) }
 {
     if in_mode(s, Mode::Too) {
         return draft

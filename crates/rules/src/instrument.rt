@@ -3,20 +3,20 @@ ghost use Rattle.std.specs.Prelude.{◌≡◌};
 ghost use Rattle.rules.specs.Rule.{decide};
 ghost use Rattle.rules.specs.Rules.{
   started,
-  mainFeedOn,
+  main_feed_on,
   configured,
-  powerOn,
-  powerOff,
-  holdEnter,
-  holdExit,
-  saaEnter,
-  saaExit,
-  loadShed,
+  power_on,
+  power_off,
+  hold_enter,
+  hold_exit,
+  saa_enter,
+  saa_exit,
+  load_shed,
   shedding,
-  noOp,
+  no_op,
 };
 ghost use Rattle.draft.specs.Draft.{emits};
-ghost use Rattle.rules.specs.Ruling.{ruledAs};
+ghost use Rattle.rules.specs.Ruling.{ruled_as};
 
 use crate::conditions::{end_too, in_mode, lpa_is, stop_calibration, stop_physics};
 use draft::{Draft, Ruling, blank, refused};
@@ -25,7 +25,7 @@ use records::Record;
 use state::State;
 
 pub fn started(s: State) -> Ruling
-    ensures { result ≡ ruledAs s (decide (started s)) }
+    ensures { result ≡ ruled_as s (decide (started s)) }
 {
     if !in_mode(s, Mode::Boot) {
         return refused(s, Status::BadMode);
@@ -36,7 +36,7 @@ pub fn started(s: State) -> Ruling
 }
 
 pub fn main_feed_on(s: State) -> Ruling
-    ensures { result ≡ ruledAs s (decide (mainFeedOn s)) }
+    ensures { result ≡ ruled_as s (decide (main_feed_on s)) }
 {
     if !in_mode(s, Mode::Terminal) {
         return refused(s, Status::BadMode);
@@ -58,7 +58,7 @@ fn configured(s: State) -> Record
 }
 
 pub fn power_on(s: State, mask: u32) -> Ruling
-    ensures { result ≡ ruledAs s (decide (powerOn s mask)) }
+    ensures { result ≡ ruled_as s (decide (power_on s mask)) }
 {
     if !in_mode(s, Mode::Quiescent) {
         return refused(s, Status::BadMode);
@@ -73,7 +73,7 @@ pub fn power_on(s: State, mask: u32) -> Ruling
 }
 
 pub fn power_off(s: State, mask: u32) -> Ruling
-    ensures { result ≡ ruledAs s (decide (powerOff s mask)) }
+    ensures { result ≡ ruled_as s (decide (power_off s mask)) }
 {
     if !in_mode(s, Mode::Quiescent) {
         return refused(s, Status::BadMode);
@@ -87,7 +87,7 @@ pub fn power_off(s: State, mask: u32) -> Ruling
 }
 
 pub fn hold_enter(s: State) -> Ruling
-    ensures { result ≡ ruledAs s (decide (holdEnter s)) }
+    ensures { result ≡ ruled_as s (decide (hold_enter s)) }
 {
     let quiet = in_mode(s, Mode::Quiescent) | in_mode(s, Mode::Calibration);
     if !(quiet | in_mode(s, Mode::Physics) | in_mode(s, Mode::Too)) {
@@ -100,7 +100,7 @@ pub fn hold_enter(s: State) -> Ruling
 }
 
 pub fn hold_exit(s: State) -> Ruling
-    ensures { result ≡ ruledAs s (decide (holdExit s)) }
+    ensures { result ≡ ruled_as s (decide (hold_exit s)) }
 {
     if !in_mode(s, Mode::Hold) {
         return refused(s, Status::BadMode);
@@ -111,7 +111,7 @@ pub fn hold_exit(s: State) -> Ruling
 }
 
 pub fn saa_enter(s: State) -> Ruling
-    ensures { result ≡ ruledAs s (decide (saaEnter s)) }
+    ensures { result ≡ ruled_as s (decide (saa_enter s)) }
 {
     let wait = Record::Wait {
         seconds: ranges::WAIT_LONG,
@@ -123,7 +123,7 @@ pub fn saa_enter(s: State) -> Ruling
 }
 
 pub fn saa_exit(s: State) -> Ruling
-    ensures { result ≡ ruledAs s (decide (saaExit s)) }
+    ensures { result ≡ ruled_as s (decide (saa_exit s)) }
 {
     blank(s)
         .emit(Record::SaaChange(false))
@@ -132,7 +132,7 @@ pub fn saa_exit(s: State) -> Ruling
 }
 
 pub fn load_shed(s: State) -> Ruling
-    ensures { result ≡ ruledAs s (decide (loadShed s)) }
+    ensures { result ≡ ruled_as s (decide (load_shed s)) }
 {
     let alert = Record::Alert {
         number: ranges::ALERT_SHED,
@@ -161,7 +161,7 @@ fn shed(draft: Draft) -> Draft
 }
 
 pub fn no_op(s: State) -> Ruling
-    ensures { result ≡ ruledAs s (decide (noOp s)) }
+    ensures { result ≡ ruled_as s (decide (no_op s)) }
 {
     if in_mode(s, Mode::Hold) {
         return refused(s, Status::BadMode);

@@ -1,8 +1,8 @@
 // Every event in every state: whether it is heard, its rule, its STATUS (Mode rules, Records).
 ghost use Rattle.std.specs.Prelude.{◌≡◌};
 ghost use Rattle.rules.specs.Rule.{decide};
-ghost use Rattle.rules.specs.Rules.{ruleOf, unheard, verdictOf};
-ghost use Rattle.rules.specs.Ruling.{ruledAs, rulingOf};
+ghost use Rattle.rules.specs.Rules.{rule_of, unheard, verdict_of};
+ghost use Rattle.rules.specs.Ruling.{ruled_as, ruling_of};
 
 use draft::{Ruling, refused, with_status};
 use events::Event;
@@ -20,14 +20,14 @@ use too_rules::{too_abort, too_expired, too_start};
 // What the rules say of an event in a state: its status, the state after it, and its records, the closing STATUS last. In a sound
 // state whose count is below its end they all have room.
 pub fn ruled(state: State, event: Event) -> Ruling
-    ensures { result ≡ rulingOf state event }
+    ensures { result ≡ ruling_of state event }
 {
     let said = heard(state, event);
     with_status(said, state::one_more(state.count))
 }
 
 fn heard(s: State, event: Event) -> Ruling
-    ensures { result ≡ ruledAs s (verdictOf s event) }
+    ensures { result ≡ ruled_as s (verdict_of s event) }
 {
     if unheard(s, event) {
         return refused(s, Status::NotRun);
@@ -42,7 +42,7 @@ fn unheard(s: State, event: Event) -> bool
 }
 
 fn by_rule(s: State, event: Event) -> Ruling
-    ensures { result ≡ ruledAs s (decide (ruleOf s event)) }
+    ensures { result ≡ ruled_as s (decide (rule_of s event)) }
 {
     match event {
         Event::Started => started(s),

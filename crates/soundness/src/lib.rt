@@ -1,6 +1,6 @@
 // Which states are sound (State): the clauses (a) to (e), as they stand in the book, those of the shape first and then the numbers.
 ghost use Rattle.std.specs.Prelude.{◌≡◌};
-ghost use Rattle.soundness.specs.Sound.{sound, shapeSound, numbersSound, calibrationSound, physicsSound, tooSound, bootSound, tasksSound};
+ghost use Rattle.soundness.specs.Sound.{sound, shape_sound, numbers_sound, calibration_sound, physics_sound, too_sound, boot_sound, tasks_sound};
 
 use kinds::{LpaMode, Mode, Task, TooState};
 use state::State;
@@ -12,7 +12,7 @@ pub fn sound(s: State) -> bool
 }
 
 fn shape_sound(s: State) -> bool
-    ensures { result ≡ shapeSound s }
+    ensures { result ≡ shape_sound s }
 {
     let calibration = calibration_sound(s);
     let physics = physics_sound(s);
@@ -23,13 +23,13 @@ fn shape_sound(s: State) -> bool
 }
 
 fn numbers_sound(s: State) -> bool
-    ensures { result ≡ numbersSound s }
+    ensures { result ≡ numbers_sound s }
 {
     s.armed <= s.count
 }
 
 fn calibration_sound(s: State) -> bool
-    ensures { result ≡ calibrationSound s }
+    ensures { result ≡ calibration_sound s }
 {
     let mode = s.mode;
     let lci = s.lci;
@@ -38,7 +38,7 @@ fn calibration_sound(s: State) -> bool
 }
 
 fn physics_sound(s: State) -> bool
-    ensures { result ≡ physicsSound s }
+    ensures { result ≡ physics_sound s }
 {
     let mode = s.mode;
     let lpa = s.lpa;
@@ -50,7 +50,7 @@ fn physics_sound(s: State) -> bool
 }
 
 fn too_sound(s: State) -> bool
-    ensures { result ≡ tooSound s }
+    ensures { result ≡ too_sound s }
 {
     let mode = s.mode;
     let too = s.too;
@@ -64,7 +64,7 @@ fn too_sound(s: State) -> bool
 }
 
 fn boot_sound(s: State) -> bool
-    ensures { result ≡ bootSound s }
+    ensures { result ≡ boot_sound s }
 {
     let mode = s.mode;
     let lci = s.lci;
@@ -78,7 +78,7 @@ fn boot_sound(s: State) -> bool
 }
 
 fn tasks_sound(s: State) -> bool
-    ensures { result ≡ tasksSound s }
+    ensures { result ≡ tasks_sound s }
 {
     let lci = s.lci;
     let lpa = s.lpa;

@@ -11,15 +11,15 @@ use Rattle.state.specs.declared.State.{State}
 
 -- a state by its fields, in their order
 abbrev pub state_of : Mode → Task → Task → LpaMode → Bool → Bool → Bool → TooState → ℕ → ℕ → State
-state_of mode lci lpa lpaMode saa lciAwaited lpaAwaited too armed count =
+state_of mode lci lpa lpa_mode saa lci_awaited lpa_awaited too armed count =
     record {
       mode = mode;
       lci = lci;
       lpa = lpa;
-      lpa_mode = lpaMode;
+      lpa_mode = lpa_mode;
       saa = saa;
-      lci_awaited = lciAwaited;
-      lpa_awaited = lpaAwaited;
+      lci_awaited = lci_awaited;
+      lpa_awaited = lpa_awaited;
       too = too;
       armed = armed;
       count = count;
@@ -33,32 +33,32 @@ abbrev pub fresh : State
 fresh = rebooted 0
 
 -- the state with one field changed, in the fields' order
-abbrev pub withMode : State → Mode → State
-withMode s x = state_of x s.lci s.lpa s.lpa_mode s.saa s.lci_awaited s.lpa_awaited s.too s.armed s.count
+abbrev pub with_mode : State → Mode → State
+with_mode s x = state_of x s.lci s.lpa s.lpa_mode s.saa s.lci_awaited s.lpa_awaited s.too s.armed s.count
 
-abbrev pub withLci : State → Task → State
-withLci s x = state_of s.mode x s.lpa s.lpa_mode s.saa s.lci_awaited s.lpa_awaited s.too s.armed s.count
+abbrev pub with_lci : State → Task → State
+with_lci s x = state_of s.mode x s.lpa s.lpa_mode s.saa s.lci_awaited s.lpa_awaited s.too s.armed s.count
 
-abbrev pub withLpa : State → Task → State
-withLpa s x = state_of s.mode s.lci x s.lpa_mode s.saa s.lci_awaited s.lpa_awaited s.too s.armed s.count
+abbrev pub with_lpa : State → Task → State
+with_lpa s x = state_of s.mode s.lci x s.lpa_mode s.saa s.lci_awaited s.lpa_awaited s.too s.armed s.count
 
-abbrev pub withLpaMode : State → LpaMode → State
-withLpaMode s x = state_of s.mode s.lci s.lpa x s.saa s.lci_awaited s.lpa_awaited s.too s.armed s.count
+abbrev pub with_lpa_mode : State → LpaMode → State
+with_lpa_mode s x = state_of s.mode s.lci s.lpa x s.saa s.lci_awaited s.lpa_awaited s.too s.armed s.count
 
-abbrev pub withSaa : State → Bool → State
-withSaa s x = state_of s.mode s.lci s.lpa s.lpa_mode x s.lci_awaited s.lpa_awaited s.too s.armed s.count
+abbrev pub with_saa : State → Bool → State
+with_saa s x = state_of s.mode s.lci s.lpa s.lpa_mode x s.lci_awaited s.lpa_awaited s.too s.armed s.count
 
-abbrev pub withLciAwaited : State → Bool → State
-withLciAwaited s x = state_of s.mode s.lci s.lpa s.lpa_mode s.saa x s.lpa_awaited s.too s.armed s.count
+abbrev pub with_lci_awaited : State → Bool → State
+with_lci_awaited s x = state_of s.mode s.lci s.lpa s.lpa_mode s.saa x s.lpa_awaited s.too s.armed s.count
 
-abbrev pub withLpaAwaited : State → Bool → State
-withLpaAwaited s x = state_of s.mode s.lci s.lpa s.lpa_mode s.saa s.lci_awaited x s.too s.armed s.count
+abbrev pub with_lpa_awaited : State → Bool → State
+with_lpa_awaited s x = state_of s.mode s.lci s.lpa s.lpa_mode s.saa s.lci_awaited x s.too s.armed s.count
 
-abbrev pub withToo : State → TooState → State
-withToo s x = state_of s.mode s.lci s.lpa s.lpa_mode s.saa s.lci_awaited s.lpa_awaited x s.armed s.count
+abbrev pub with_too : State → TooState → State
+with_too s x = state_of s.mode s.lci s.lpa s.lpa_mode s.saa s.lci_awaited s.lpa_awaited x s.armed s.count
 
-abbrev pub withArmed : State → ℕ → State
-withArmed s x = state_of s.mode s.lci s.lpa s.lpa_mode s.saa s.lci_awaited s.lpa_awaited s.too x s.count
+abbrev pub with_armed : State → ℕ → State
+with_armed s x = state_of s.mode s.lci s.lpa s.lpa_mode s.saa s.lci_awaited s.lpa_awaited s.too x s.count
 
-abbrev pub withCount : State → ℕ → State
-withCount s x = state_of s.mode s.lci s.lpa s.lpa_mode s.saa s.lci_awaited s.lpa_awaited s.too s.armed x
+abbrev pub with_count : State → ℕ → State
+with_count s x = state_of s.mode s.lci s.lpa s.lpa_mode s.saa s.lci_awaited s.lpa_awaited s.too s.armed x

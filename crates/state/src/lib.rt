@@ -5,16 +5,16 @@ ghost use Rattle.std.specs.Prelude.{◌≡◌};
 ghost use Rattle.state.specs.State.{
   fresh,
   rebooted,
-  withMode,
-  withLci,
-  withLpa,
-  withLpaMode,
-  withSaa,
-  withLciAwaited,
-  withLpaAwaited,
-  withToo,
-  withArmed,
-  withCount,
+  with_mode,
+  with_lci,
+  with_lpa,
+  with_lpa_mode,
+  with_saa,
+  with_lci_awaited,
+  with_lpa_awaited,
+  with_too,
+  with_armed,
+  with_count,
 };
 
 pub use effect::one_more;
@@ -63,65 +63,65 @@ impl State {
     // stored to, and the state is written anew.
 
     pub fn with_mode(self, mode: Mode) -> Self
-        ensures { result ≡ withMode self mode }
+        ensures { result ≡ with_mode self mode }
     {
         State { mode, ..self }
     }
 
     pub fn with_lci(self, lci: Task) -> Self
-        ensures { result ≡ withLci self lci }
+        ensures { result ≡ with_lci self lci }
     {
         State { lci, ..self }
     }
 
     pub fn with_lpa(self, lpa: Task) -> Self
-        ensures { result ≡ withLpa self lpa }
+        ensures { result ≡ with_lpa self lpa }
     {
         State { lpa, ..self }
     }
 
     pub fn with_lpa_mode(self, lpa_mode: LpaMode) -> Self
-        ensures { result ≡ withLpaMode self lpa_mode }
+        ensures { result ≡ with_lpa_mode self lpa_mode }
     {
         State { lpa_mode, ..self }
     }
 
     pub fn with_saa(mut self, saa: bool) -> Self
-        ensures { result ≡ withSaa self saa }
+        ensures { result ≡ with_saa self saa }
     {
         self.saa = saa;
         self
     }
 
     pub fn with_lci_awaited(mut self, lci_awaited: bool) -> Self
-        ensures { result ≡ withLciAwaited self lci_awaited }
+        ensures { result ≡ with_lci_awaited self lci_awaited }
     {
         self.lci_awaited = lci_awaited;
         self
     }
 
     pub fn with_lpa_awaited(mut self, lpa_awaited: bool) -> Self
-        ensures { result ≡ withLpaAwaited self lpa_awaited }
+        ensures { result ≡ with_lpa_awaited self lpa_awaited }
     {
         self.lpa_awaited = lpa_awaited;
         self
     }
 
     pub fn with_too(self, too: TooState) -> Self
-        ensures { result ≡ withToo self too }
+        ensures { result ≡ with_too self too }
     {
         State { too, ..self }
     }
 
     pub fn with_armed(mut self, armed: u32) -> Self
-        ensures { result ≡ withArmed self armed }
+        ensures { result ≡ with_armed self armed }
     {
         self.armed = armed;
         self
     }
 
     pub fn with_count(mut self, count: u32) -> Self
-        ensures { result ≡ withCount self count }
+        ensures { result ≡ with_count self count }
     {
         self.count = count;
         self

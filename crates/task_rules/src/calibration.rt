@@ -3,8 +3,8 @@ ghost use Rattle.std.specs.Prelude.{◌≡◌};
 ghost use Rattle.kinds.specs.Choice.{if◌then◌else◌};
 ghost use Rattle.kinds.specs.declared.task.Task.{Task};
 ghost use Rattle.rules.specs.Rule.{decide};
-ghost use Rattle.rules.specs.Rules.{calStart, calAbort, calOther, calStatus, calComplete};
-ghost use Rattle.rules.specs.Ruling.{ruledAs};
+ghost use Rattle.rules.specs.Rules.{cal_start, cal_abort, cal_other, cal_status, cal_complete};
+ghost use Rattle.rules.specs.Ruling.{ruled_as};
 
 use draft::{Ruling, blank, refused};
 use kinds::{Mode, Status, Task};
@@ -13,7 +13,7 @@ use rules::conditions::{in_mode, lci_is, lpa_is};
 use state::State;
 
 pub fn cal_start(s: State) -> Ruling
-    ensures { result ≡ ruledAs s (decide (calStart s)) }
+    ensures { result ≡ ruled_as s (decide (cal_start s)) }
 {
     if !in_mode(s, Mode::Quiescent) {
         return refused(s, Status::BadMode);
@@ -35,7 +35,7 @@ fn aborted(idle: bool) -> Task
 }
 
 pub fn cal_abort(s: State) -> Ruling
-    ensures { result ≡ ruledAs s (decide (calAbort s)) }
+    ensures { result ≡ ruled_as s (decide (cal_abort s)) }
 {
     if in_mode(s, Mode::Terminal) | in_mode(s, Mode::Hold) {
         return refused(s, Status::BadMode);
@@ -47,7 +47,7 @@ pub fn cal_abort(s: State) -> Ruling
 }
 
 pub fn cal_other(s: State) -> Ruling
-    ensures { result ≡ ruledAs s (decide (calOther s)) }
+    ensures { result ≡ ruled_as s (decide (cal_other s)) }
 {
     if !in_mode(s, Mode::Calibration) {
         return refused(s, Status::BadMode);
@@ -59,7 +59,7 @@ pub fn cal_other(s: State) -> Ruling
 }
 
 pub fn cal_status(s: State, good: bool) -> Ruling
-    ensures { result ≡ ruledAs s (decide (calStatus s good)) }
+    ensures { result ≡ ruled_as s (decide (cal_status s good)) }
 {
     let draft = blank(s).emit(Record::CalStatus(good));
     if in_mode(s, Mode::Calibration) & s.lci_awaited & !good {
@@ -72,7 +72,7 @@ pub fn cal_status(s: State, good: bool) -> Ruling
 }
 
 pub fn cal_complete(s: State) -> Ruling
-    ensures { result ≡ ruledAs s (decide (calComplete s)) }
+    ensures { result ≡ ruled_as s (decide (cal_complete s)) }
 {
     let quiescent = Record::OpMode(Mode::Quiescent);
     blank(s)

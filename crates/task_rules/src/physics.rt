@@ -3,9 +3,9 @@ ghost use Rattle.std.specs.Prelude.{not, ◌||◌, ◌≡◌};
 ghost use Rattle.kinds.specs.Choice.{if◌then◌else◌};
 ghost use Rattle.kinds.specs.declared.lpa_mode.LpaMode.{LpaMode};
 ghost use Rattle.kinds.specs.declared.task.Task.{Task};
-ghost use Rattle.rules.specs.Rule.{decide, lciIs, lpaIs};
-ghost use Rattle.rules.specs.Rules.{lpaStart, lpaStop, lpaOther, lpaStatus, lpaComplete};
-ghost use Rattle.rules.specs.Ruling.{ruledAs};
+ghost use Rattle.rules.specs.Rule.{decide, lci_is, lpa_is};
+ghost use Rattle.rules.specs.Rules.{lpa_start, lpa_stop, lpa_other, lpa_status, lpa_complete};
+ghost use Rattle.rules.specs.Ruling.{ruled_as};
 
 use draft::{Ruling, blank, refused};
 use kinds::{LpaMode, Mode, Status, Task, TooState};
@@ -14,7 +14,7 @@ use rules::conditions::{in_mode, lci_is, lpa_is, too_is};
 use state::State;
 
 pub fn lpa_start(s: State, run: u32) -> Ruling
-    ensures { result ≡ ruledAs s (decide (lpaStart s run)) }
+    ensures { result ≡ ruled_as s (decide (lpa_start s run)) }
 {
     let quiescent = in_mode(s, Mode::Quiescent);
     let too = in_mode(s, Mode::Too);
@@ -42,7 +42,7 @@ pub fn lpa_start(s: State, run: u32) -> Ruling
 
 // The run before has not ended, or a calibration has not.
 fn still_stopping(s: State) -> bool
-    ensures { result ≡ (lpaIs s Task.Stopping || not (lciIs s Task.Idle)) }
+    ensures { result ≡ (lpa_is s Task.Stopping || not (lci_is s Task.Idle)) }
 {
     lpa_is(s, Task::Stopping) | !lci_is(s, Task::Idle)
 }
@@ -59,7 +59,7 @@ fn mode_to_start(quiescent: bool) -> LpaMode
 }
 
 pub fn lpa_stop(s: State) -> Ruling
-    ensures { result ≡ ruledAs s (decide (lpaStop s)) }
+    ensures { result ≡ ruled_as s (decide (lpa_stop s)) }
 {
     if !(in_mode(s, Mode::Physics) | in_mode(s, Mode::Too)) {
         return refused(s, Status::BadMode);
@@ -74,7 +74,7 @@ pub fn lpa_stop(s: State) -> Ruling
 }
 
 pub fn lpa_other(s: State) -> Ruling
-    ensures { result ≡ ruledAs s (decide (lpaOther s)) }
+    ensures { result ≡ ruled_as s (decide (lpa_other s)) }
 {
     if !(in_mode(s, Mode::Physics) | in_mode(s, Mode::Too)) {
         return refused(s, Status::BadMode);
@@ -89,7 +89,7 @@ pub fn lpa_other(s: State) -> Ruling
 }
 
 pub fn lpa_status(s: State, good: bool) -> Ruling
-    ensures { result ≡ ruledAs s (decide (lpaStatus s good)) }
+    ensures { result ≡ ruled_as s (decide (lpa_status s good)) }
 {
     let draft = blank(s).emit(Record::LpaStatus(good));
     let physics = in_mode(s, Mode::Physics);
@@ -103,7 +103,7 @@ pub fn lpa_status(s: State, good: bool) -> Ruling
 }
 
 pub fn lpa_complete(s: State) -> Ruling
-    ensures { result ≡ ruledAs s (decide (lpaComplete s)) }
+    ensures { result ≡ ruled_as s (decide (lpa_complete s)) }
 {
     let quiescent = Record::OpMode(Mode::Quiescent);
     blank(s)

@@ -4,12 +4,12 @@ use Rattle.std.specs.Prelude.{ℕ, ◌%◌, Bool, true, false, eqb, ltb}
 use Rattle.terminal.specs.Numeral.{if◌then◌else◌}
 
 -- a size of 0 counts as 1
-unfoldable pub wholeGroups : ℕ → ℕ → Bool
-wholeGroups count size = if eqb size 0 then true else eqb (count % size) 0
+unfoldable pub whole_groups : ℕ → ℕ → Bool
+whole_groups count size = if eqb size 0 then true else eqb (count % size) 0
 
 -- the input has not ended, and the output, a buffer of 65,536 bytes, is not broken
-unfoldable pub readsOn : ℕ → ℕ → ℕ → Bool
-readsOn count size at =
+unfoldable pub reads_on : ℕ → ℕ → ℕ → Bool
+reads_on count size at =
     if eqb count 0 then false else
     if ltb 65536 at then false else
-    wholeGroups count size
+    whole_groups count size

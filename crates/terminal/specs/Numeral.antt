@@ -9,39 +9,39 @@ if true then a else b = a
 if false then a else b = b
 
 -- the six digits above 9; 16 is no digit
-unfoldable pub hexLetter : ℕ → ℕ
-hexLetter b =
+unfoldable pub hex_letter : ℕ → ℕ
+hex_letter b =
     if ltb b 65 then 16 else
     if ltb b 71 then b - 65 + 10 else
     if ltb b 97 then 16 else
     if ltb b 103 then b - 97 + 10 else 16
 
-unfoldable pub digitOf : ℕ → Bool → ℕ
-digitOf b hex =
+unfoldable pub digit_of : ℕ → Bool → ℕ
+digit_of b hex =
     if ltb b 48 then 16 else
     if ltb b 58 then b - 48 else
-    if hex then hexLetter b else 16
+    if hex then hex_letter b else 16
 
 -- no further than one above the largest number
 unfoldable pub capped : ℕ → ℕ
 capped n = if ltb n 4_294_967_296 then n else 4_294_967_296
 
 -- a digit more
-unfoldable pub withDigit : ℕ → Bool → ℕ → ℕ
-withDigit value hex d = if hex then capped (value * 16 + d) else capped (value * 10 + d)
+unfoldable pub with_digit : ℕ → Bool → ℕ → ℕ
+with_digit value hex d = if hex then capped (value * 16 + d) else capped (value * 10 + d)
 
 -- what a value and the digits after it say
 unfoldable pub read_on : Bool → ℕ → List ℕ → Parsed
 read_on hex value [] = if eqb value 4_294_967_296 then Parsed.TooLarge else Parsed.Number value
 read_on hex value (b ∷ bs) =
-    if eqb (digitOf b hex) 16 then Parsed.NoNumber else read_on hex (withDigit value hex (digitOf b hex)) bs
+    if eqb (digit_of b hex) 16 then Parsed.NoNumber else read_on hex (with_digit value hex (digit_of b hex)) bs
 
 -- at least one digit
-unfoldable pub digitsOf : List ℕ → Bool → Parsed
-digitsOf w hex = if eqb (length w) 0 then Parsed.NoNumber else read_on hex 0 w
+unfoldable pub digits_of : List ℕ → Bool → Parsed
+digits_of w hex = if eqb (length w) 0 then Parsed.NoNumber else read_on hex 0 w
 
 unfoldable pub parsed : List ℕ → Parsed
 parsed w =
-    if ltb (length w) 3 then digitsOf w false else
-    if eqb (get_or w 0 0) 48 then (if eqb (get_or w 1 0) 120 then digitsOf (drop 2 w) true else digitsOf w false) else
-    digitsOf w false
+    if ltb (length w) 3 then digits_of w false else
+    if eqb (get_or w 0 0) 48 then (if eqb (get_or w 1 0) 120 then digits_of (drop 2 w) true else digits_of w false) else
+    digits_of w false

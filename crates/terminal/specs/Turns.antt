@@ -3,5 +3,5 @@
 use Rattle.std.specs.Prelude.{ℕ, ◌-◌, Bool}
 use Rattle.terminal.specs.Numeral.{if◌then◌else◌}
 
-unfoldable pub turnsLeft : ℕ → Bool → ℕ
-turnsLeft turns more = if more then turns - 1 else 0
+unfoldable pub turns_left : ℕ → Bool → ℕ
+turns_left turns more = if more then turns - 1 else 0

@@ -1,7 +1,7 @@
 // Standard input in whole groups: each as it comes from a live feed, many at a time from a file.
 ghost use Rattle.std.specs.Prelude.{◌≤◌, ◌<◌, ◌≡◌, length};
 ghost use Rattle.io.specs.Counts.{IsPrefixLen};
-ghost use Rattle.terminal.specs.Input.{wholeGroups, readsOn};
+ghost use Rattle.terminal.specs.Input.{whole_groups, reads_on};
 
 use crate::put::BUFFER;
 use crate::retry::passes;
@@ -48,7 +48,7 @@ fn wanted(done: usize, size: usize, long: usize) -> usize
 
 // Whether to read on after so many bytes, with so much of the output's buffer taken.
 pub fn reads_on(count: usize, size: usize, at: usize) -> bool
-    ensures { result ≡ readsOn count size at }
+    ensures { result ≡ reads_on count size at }
 {
     if count == 0 {
         return false;
@@ -60,7 +60,7 @@ pub fn reads_on(count: usize, size: usize, at: usize) -> bool
 }
 
 fn whole(count: usize, size: usize) -> bool
-    ensures { result ≡ wholeGroups count size }
+    ensures { result ≡ whole_groups count size }
 {
     if size == 0 {
         return true;

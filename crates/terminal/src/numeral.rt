@@ -1,6 +1,6 @@
 // Numbers in words: decimal, or 0x and hexadecimal digits, 0 to 4,294,967,295.
 ghost use Rattle.std.specs.Prelude.{◌≤◌, ◌≡◌};
-ghost use Rattle.terminal.specs.Numeral.{parsed, digitsOf, digitOf, hexLetter, withDigit, capped};
+ghost use Rattle.terminal.specs.Numeral.{parsed, digits_of, digit_of, hex_letter, with_digit, capped};
 
 #[derive(Drop)]
 pub enum Parsed {
@@ -31,7 +31,7 @@ pub fn parse(word: &[u8]) -> Parsed
 }
 
 fn digits(word: &[u8], hex: bool) -> Parsed
-    ensures { result ≡ digitsOf word.now hex }
+    ensures { result ≡ digits_of word.now hex }
 {
     if word.len() == 0 {
         return Parsed::NoNumber;
@@ -54,7 +54,7 @@ fn digits(word: &[u8], hex: bool) -> Parsed
 
 // The number that a byte stands for as a digit, and 16 where it is none.
 pub fn digit(b: u8, hex: bool) -> u64
-    ensures value { result ≡ digitOf b hex }
+    ensures value { result ≡ digit_of b hex }
     ensures upper_bound { result ≤ 16 }
 {
     if b < b'0' {
@@ -71,7 +71,7 @@ pub fn digit(b: u8, hex: bool) -> u64
 
 // The same of the six digits above 9, in either case.
 fn hex_letter(b: u8) -> u64
-    ensures value { result ≡ hexLetter b }
+    ensures value { result ≡ hex_letter b }
     ensures upper_bound { result ≤ 16 }
 {
     if b < b'A' {
@@ -93,7 +93,7 @@ fn hex_letter(b: u8) -> u64
 fn with_digit(value: u64, hex: bool, d: u64) -> u64
     requires value_bound { value ≤ 4_294_967_296 }
     requires d_bound { d ≤ 16 }
-    ensures value { result ≡ withDigit value hex d }
+    ensures value { result ≡ with_digit value hex d }
     ensures upper_bound { result ≤ 4_294_967_296 }
 {
     if hex {

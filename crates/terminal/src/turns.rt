@@ -1,13 +1,13 @@
 // The turns of a program's loop. A proved loop has to end, and nothing says that the input does: the turns are counted down from a
 // number that no run uses up.
 ghost use Rattle.std.specs.Prelude.{◌≤◌, ◌-◌, ◌≡◌};
-ghost use Rattle.terminal.specs.Turns.{turnsLeft};
+ghost use Rattle.terminal.specs.Turns.{turns_left};
 
 pub const TURNS: u64 = u64::MAX;
 
 // The turns that are left after one: none where there is no reason to go on.
 pub fn turns_left(turns: u64, more: bool) -> u64
-    ensures value { result ≡ turnsLeft turns more }
+    ensures value { result ≡ turns_left turns more }
     ensures upper_bound { result ≤ turns - 1 }
 {
     if turns == 0 {

@@ -4,8 +4,8 @@ ghost use Rattle.kinds.specs.Choice.{if◌then◌else◌};
 ghost use Rattle.kinds.specs.declared.status.Status.{Status};
 ghost use Rattle.draft.specs.Draft.{emits};
 ghost use Rattle.rules.specs.Rule.{decide};
-ghost use Rattle.rules.specs.Rules.{startsPhysics, tooStarting, tooStart, tooExpired, tooAbort, leaveToo};
-ghost use Rattle.rules.specs.Ruling.{ruledAs};
+ghost use Rattle.rules.specs.Rules.{starts_physics, too_starting, too_start, too_expired, too_abort, leave_too};
+ghost use Rattle.rules.specs.Ruling.{ruled_as};
 
 use draft::{Draft, Ruling, blank, refused};
 use kinds::{LpaMode, Mode, Status, Task, TooState};
@@ -14,7 +14,7 @@ use rules::conditions::{in_mode, lci_is, lpa_is};
 use state::State;
 
 pub fn too_start(s: State, run: u32, dwell: u32) -> Ruling
-    ensures { result ≡ ruledAs s (decide (tooStart s run dwell)) }
+    ensures { result ≡ ruled_as s (decide (too_start s run dwell)) }
 {
     let too = in_mode(s, Mode::Too);
     if !(too | in_mode(s, Mode::Quiescent) | in_mode(s, Mode::Physics)) {
@@ -34,7 +34,7 @@ pub fn too_start(s: State, run: u32, dwell: u32) -> Ruling
 }
 
 fn starts_physics(s: State) -> bool
-    ensures { result ≡ startsPhysics s }
+    ensures { result ≡ starts_physics s }
 {
     lpa_is(s, Task::Idle) & lci_is(s, Task::Idle) & !s.saa
 }
@@ -50,7 +50,7 @@ fn sent(started: bool) -> Status
 }
 
 fn too_starting(s: State, run: u32, draft: Draft) -> Draft
-    ensures { result ≡ emits draft (tooStarting s run) }
+    ensures { result ≡ emits draft (too_starting s run) }
 {
     let mode = LpaMode::Too;
     let started = Record::TooState(TooState::Started);
@@ -67,7 +67,7 @@ fn too_starting(s: State, run: u32, draft: Draft) -> Draft
 }
 
 pub fn too_expired(s: State, armed: u32) -> Ruling
-    ensures { result ≡ ruledAs s (decide (tooExpired s armed)) }
+    ensures { result ≡ ruled_as s (decide (too_expired s armed)) }
 {
     if !(in_mode(s, Mode::Too) & (armed == s.armed)) {
         return refused(s, Status::Stale);
@@ -76,7 +76,7 @@ pub fn too_expired(s: State, armed: u32) -> Ruling
 }
 
 pub fn too_abort(s: State) -> Ruling
-    ensures { result ≡ ruledAs s (decide (tooAbort s)) }
+    ensures { result ≡ ruled_as s (decide (too_abort s)) }
 {
     if !in_mode(s, Mode::Too) {
         return refused(s, Status::BadMode);
@@ -85,7 +85,7 @@ pub fn too_abort(s: State) -> Ruling
 }
 
 fn leave_too(s: State, draft: Draft) -> Draft
-    ensures { result ≡ emits draft (leaveToo s) }
+    ensures { result ≡ emits draft (leave_too s) }
 {
     let draft = draft
         .emit(Record::TooTimerStop)

@@ -9,8 +9,8 @@ invariant-loop space₀ out₀ text₀ piece₀ turns₀ space out text piece tu
 abbrev decreases-loop : tie.decreases-loop
 decreases-loop space₀ out₀ text₀ piece₀ turns₀ space out text piece turns = turns
 
-pub all-spec : {M : Type 1} → statement M
-all-spec =
+pub all_spec : {M : Type 1} → statement M
+all_spec =
     tie.close
     (tie.spec
     invariant-loop

@@ -9,8 +9,8 @@ invariant-loop string₀ out₀ number₀ turns₀ string out number turns = Uni
 abbrev decreases-loop : tie.decreases-loop
 decreases-loop string₀ out₀ number₀ turns₀ string out number turns = turns
 
-pub all-spec : {M : Type 1} → statement M
-all-spec =
+pub all_spec : {M : Type 1} → statement M
+all_spec =
     tie.close
     (tie.spec
     invariant-loop

@@ -3,8 +3,8 @@ use Rattle.std.proofs.Common.{sym, length-take-le, rules}
 use Rattle.checks.proofs.body.Statement.{statement}
 use Rattle.checks.proofs.body.Tie as tie
 
-pub body-spec : {M : Type 1} → statement M
-body-spec =
+pub body_spec : {M : Type 1} → statement M
+body_spec =
     tie.close
     (tie.spec
     (λ c. search rules)

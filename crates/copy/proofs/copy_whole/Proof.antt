@@ -6,7 +6,7 @@ use native.Mathlib.Omega.{arith}
 use borrow.Author.Rules.{rules}
 use lib.ListN.{length, length-set}
 use lib.Seq.{paste, paste-zero}
-use Rattle.copy.specs.CopyLaws.{copied-turn}
+use Rattle.copy.specs.CopyLaws.{copied_turn}
 use Rattle.copy.proofs.copy_whole.Statement.{statement}
 use Rattle.copy.proofs.copy_whole.Tie as tie
 
@@ -16,8 +16,8 @@ invariant-loop from long to₀ at i₀ to i = (i ≤ long) × (length to ≡ len
 abbrev decreases-loop : tie.decreases-loop
 decreases-loop from long to₀ at i₀ to i = long - i
 
-pub copy-whole-spec : {M : Type 1} → statement M
-copy-whole-spec =
+pub copy_whole_spec : {M : Type 1} → statement M
+copy_whole_spec =
     tie.close
     (tie.spec invariant-loop decreases-loop
     (λ c. (search rules, search rules, paste-zero _ c.args.at c.args.from.now))
@@ -29,7 +29,7 @@ copy-whole-spec =
     (λ c. (
       omega arith,
       simp length-set c.before.before.loop.invariant.1,
-      copied-turn
+      copied_turn
           c.before.before.before.args.to.now
           c.before.before.before.args.from.now
           _

@@ -11,8 +11,8 @@ invariant-loop piece out₀ heard₀ i₀ out heard i = i ≤ length piece
 abbrev decreases-loop : tie.decreases-loop
 decreases-loop piece out₀ heard₀ i₀ out heard i = length piece - i
 
-pub deliver-spec : {M : Type 1} → statement M
-deliver-spec =
+pub deliver_spec : {M : Type 1} → statement M
+deliver_spec =
     tie.close
     (tie.spec
     invariant-loop

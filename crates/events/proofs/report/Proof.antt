@@ -4,8 +4,8 @@ use borrow.Author.Rules.{rules}
 use Rattle.events.proofs.report.Statement.{statement}
 use Rattle.events.proofs.report.Tie as tie
 
-pub report-spec : {M : Type 1} → statement M
-report-spec =
+pub report_spec : {M : Type 1} → statement M
+report_spec =
     tie.close
     (tie.spec
     (λ c κs. search rules)

@@ -4,8 +4,8 @@ use borrow.Author.Tests.{ne_eqb}
 use Rattle.events.proofs.single.Statement.{statement}
 use Rattle.events.proofs.single.Tie as tie
 
-pub single-spec : {M : Type 1} → statement M
-single-spec =
+pub single_spec : {M : Type 1} → statement M
+single_spec =
     tie.close
     (tie.spec
     (λ c. simp c.if1.true)

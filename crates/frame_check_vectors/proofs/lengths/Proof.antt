@@ -10,8 +10,8 @@ invariant-loop bytes n₀ n = n ≤ 41
 abbrev decreases-loop : tie.decreases-loop
 decreases-loop bytes n₀ n = 41 - n
 
-pub lengths-spec : {M : Type 1} → statement M
-lengths-spec =
+pub lengths_spec : {M : Type 1} → statement M
+lengths_spec =
     tie.close
     (tie.spec
     invariant-loop

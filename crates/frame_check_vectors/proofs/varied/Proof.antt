@@ -10,8 +10,8 @@ invariant-loop bytes₀ state₀ i₀ bytes state i = (i ≤ 510) × (state < 65
 abbrev decreases-loop : tie.decreases-loop
 decreases-loop bytes₀ state₀ i₀ bytes state i = 510 - i
 
-pub varied-spec : {M : Type 1} → statement M
-varied-spec =
+pub varied_spec : {M : Type 1} → statement M
+varied_spec =
     tie.close
     (tie.spec
     invariant-loop

@@ -5,8 +5,8 @@ use lib.Seq.{length-take-le}
 use Rattle.layout_vectors.proofs.read_cut.Statement.{statement}
 use Rattle.layout_vectors.proofs.read_cut.Tie as tie
 
-pub read-cut-spec : {M : Type 1} → statement M
-read-cut-spec =
+pub read_cut_spec : {M : Type 1} → statement M
+read_cut_spec =
     tie.close
     (tie.spec
     (λ c. search rules)

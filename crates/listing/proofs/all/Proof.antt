@@ -11,8 +11,8 @@ invariant-loop out₀ from listed₀ piece₀ turns₀ out listed piece turns = 
 abbrev decreases-loop : tie.decreases-loop
 decreases-loop out₀ from listed₀ piece₀ turns₀ out listed piece turns = turns
 
-pub all-spec : {M : Type 1} → statement M
-all-spec =
+pub all_spec : {M : Type 1} → statement M
+all_spec =
     tie.close
     (tie.spec
     invariant-loop

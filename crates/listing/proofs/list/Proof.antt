@@ -11,8 +11,8 @@ invariant-loop piece out₀ listed₀ i₀ out listed i = i ≤ length piece
 abbrev decreases-loop : tie.decreases-loop
 decreases-loop piece out₀ listed₀ i₀ out listed i = length piece - i
 
-pub list-spec : {M : Type 1} → statement M
-list-spec =
+pub list_spec : {M : Type 1} → statement M
+list_spec =
     tie.close
     (tie.spec
     invariant-loop

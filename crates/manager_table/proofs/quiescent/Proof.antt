@@ -10,8 +10,8 @@ invariant-loop noops m₀ counter₀ m counter = counter ≤ noops
 abbrev decreases-loop : tie.decreases-loop
 decreases-loop noops m₀ counter₀ m counter = noops - counter
 
-pub quiescent-spec : {M : Type 1} → statement M
-quiescent-spec =
+pub quiescent_spec : {M : Type 1} → statement M
+quiescent_spec =
     tie.close
     (tie.spec
     invariant-loop

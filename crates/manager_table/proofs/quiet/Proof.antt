@@ -10,8 +10,8 @@ invariant-loop used end b₀ n₀ b n = n ≤ 60
 abbrev decreases-loop : tie.decreases-loop
 decreases-loop used end b₀ n₀ b n = 60 - n
 
-pub quiet-spec : {M : Type 1} → statement M
-quiet-spec =
+pub quiet_spec : {M : Type 1} → statement M
+quiet_spec =
     tie.close
     (tie.spec
     invariant-loop

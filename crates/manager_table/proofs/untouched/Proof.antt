@@ -11,8 +11,8 @@ invariant-loop lent all₀ i₀ i-end all i = i ≤ length lent
 abbrev decreases-loop : tie.decreases-loop
 decreases-loop lent all₀ i₀ i-end all i = length lent - i
 
-pub untouched-spec : {M : Type 1} → statement M
-untouched-spec =
+pub untouched_spec : {M : Type 1} → statement M
+untouched_spec =
     tie.close
     (tie.spec
     invariant-loop

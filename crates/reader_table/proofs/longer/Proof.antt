@@ -10,8 +10,8 @@ invariant-loop block long₀ i₀ long i = i ≤ 512
 abbrev decreases-loop : tie.decreases-loop
 decreases-loop block long₀ i₀ long i = 512 - i
 
-pub longer-spec : {M : Type 1} → statement M
-longer-spec =
+pub longer_spec : {M : Type 1} → statement M
+longer_spec =
     tie.close
     (tie.spec
     invariant-loop

@@ -1,13 +1,13 @@
 -- `by_rule`: each arm is the rule of its event.
 -- Assumes nothing.
 use borrow.Author.Rules.{rules}
-use Rattle.rules.specs.Rules.{ruleOf}
+use Rattle.rules.specs.Rules.{rule_of}
 use Rattle.ruling.proofs.by_rule.Statement.{statement}
 use Rattle.ruling.proofs.by_rule.Tie as tie
 
-pub by-rule-spec : {M : Type 1} → statement M
-unfolding ruleOf
-by-rule-spec =
+pub by_rule_spec : {M : Type 1} → statement M
+unfolding rule_of
+by_rule_spec =
     tie.close
     (tie.spec
     (λ c. search rules)

@@ -2,13 +2,13 @@
 -- Assumes nothing.
 use borrow.Author.Rules.{rules}
 use Rattle.draft.specs.DraftLaws.{emitting}
-use Rattle.rules.specs.Rules.{verdictOf}
+use Rattle.rules.specs.Rules.{verdict_of}
 use Rattle.ruling.proofs.heard.Statement.{statement}
 use Rattle.ruling.proofs.heard.Tie as tie
 
-pub heard-spec : {M : Type 1} → statement M
-unfolding verdictOf
-heard-spec =
+pub heard_spec : {M : Type 1} → statement M
+unfolding verdict_of
+heard_spec =
     tie.close
     (tie.spec
     (λ c κs. search rules)

@@ -1,13 +1,13 @@
 -- `ruled`: the verdict and its STATUS.
 -- Assumes nothing.
 use borrow.Author.Rules.{rules}
-use Rattle.rules.specs.Ruling.{rulingOf}
+use Rattle.rules.specs.Ruling.{ruling_of}
 use Rattle.ruling.proofs.ruled.Statement.{statement}
 use Rattle.ruling.proofs.ruled.Tie as tie
 
-pub ruled-spec : {M : Type 1} → statement M
-unfolding rulingOf
-ruled-spec =
+pub ruled_spec : {M : Type 1} → statement M
+unfolding ruling_of
+ruled_spec =
     tie.close
     (tie.spec
     (λ c κs. search rules)

@@ -5,9 +5,9 @@ use Rattle.rules.specs.Rules.{unheard}
 use Rattle.ruling.proofs.unheard.Statement.{statement}
 use Rattle.ruling.proofs.unheard.Tie as tie
 
-pub unheard-spec : {M : Type 1} → statement M
+pub unheard_spec : {M : Type 1} → statement M
 unfolding unheard
-unheard-spec =
+unheard_spec =
     tie.close
     (tie.spec
     (λ c κs. search rules)

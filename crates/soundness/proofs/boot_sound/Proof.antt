@@ -1,13 +1,13 @@
 -- Clause (d) of soundness.
 -- Assumes nothing.
 use borrow.Author.Rules.{rules}
-use Rattle.soundness.specs.Sound.{bootSound}
+use Rattle.soundness.specs.Sound.{boot_sound}
 use Rattle.soundness.proofs.boot_sound.Statement.{statement}
 use Rattle.soundness.proofs.boot_sound.Tie as tie
 
-pub boot-sound-spec : {M : Type 1} → statement M
-unfolding bootSound
-boot-sound-spec =
+pub boot_sound_spec : {M : Type 1} → statement M
+unfolding boot_sound
+boot_sound_spec =
     tie.close
     (tie.spec
     (λ c κs. search rules)

@@ -1,13 +1,13 @@
 -- Clause (b) of soundness.
 -- Assumes nothing.
 use borrow.Author.Rules.{rules}
-use Rattle.soundness.specs.Sound.{physicsSound}
+use Rattle.soundness.specs.Sound.{physics_sound}
 use Rattle.soundness.proofs.physics_sound.Statement.{statement}
 use Rattle.soundness.proofs.physics_sound.Tie as tie
 
-pub physics-sound-spec : {M : Type 1} → statement M
-unfolding physicsSound
-physics-sound-spec =
+pub physics_sound_spec : {M : Type 1} → statement M
+unfolding physics_sound
+physics_sound_spec =
     tie.close
     (tie.spec
     (λ c κs. search rules)

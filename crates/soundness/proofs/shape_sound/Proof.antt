@@ -1,13 +1,13 @@
 -- The shape is sound in five clauses.
 -- Assumes nothing.
 use borrow.Author.Rules.{rules}
-use Rattle.soundness.specs.Sound.{shapeSound}
+use Rattle.soundness.specs.Sound.{shape_sound}
 use Rattle.soundness.proofs.shape_sound.Statement.{statement}
 use Rattle.soundness.proofs.shape_sound.Tie as tie
 
-pub shape-sound-spec : {M : Type 1} → statement M
-unfolding shapeSound
-shape-sound-spec =
+pub shape_sound_spec : {M : Type 1} → statement M
+unfolding shape_sound
+shape_sound_spec =
     tie.close
     (tie.spec
     (λ c κs. search rules)

@@ -5,9 +5,9 @@ use Rattle.soundness.specs.Sound.{sound}
 use Rattle.soundness.proofs.sound.Statement.{statement}
 use Rattle.soundness.proofs.sound.Tie as tie
 
-pub sound-spec : {M : Type 1} → statement M
+pub sound_spec : {M : Type 1} → statement M
 unfolding sound
-sound-spec =
+sound_spec =
     tie.close
     (tie.spec
     (λ c κs. search rules)

@@ -1,13 +1,13 @@
 -- Clause (e) of soundness.
 -- Assumes nothing.
 use borrow.Author.Rules.{rules}
-use Rattle.soundness.specs.Sound.{tasksSound}
+use Rattle.soundness.specs.Sound.{tasks_sound}
 use Rattle.soundness.proofs.tasks_sound.Statement.{statement}
 use Rattle.soundness.proofs.tasks_sound.Tie as tie
 
-pub tasks-sound-spec : {M : Type 1} → statement M
-unfolding tasksSound
-tasks-sound-spec =
+pub tasks_sound_spec : {M : Type 1} → statement M
+unfolding tasks_sound
+tasks_sound_spec =
     tie.close
     (tie.spec
     (λ c κs. search rules)

@@ -5,8 +5,8 @@ use Rattle.draft.specs.DraftLaws.{emitting}
 use Rattle.too_rules.proofs.leave_too.Statement.{statement}
 use Rattle.too_rules.proofs.leave_too.Tie as tie
 
-pub leave-too-spec : {M : Type 1} → statement M
-leave-too-spec =
+pub leave_too_spec : {M : Type 1} → statement M
+leave_too_spec =
     tie.close
     (tie.spec
     (λ c κs. search rules)

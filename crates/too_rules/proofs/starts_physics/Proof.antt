@@ -4,8 +4,8 @@ use borrow.Author.Rules.{rules}
 use Rattle.too_rules.proofs.starts_physics.Statement.{statement}
 use Rattle.too_rules.proofs.starts_physics.Tie as tie
 
-pub starts-physics-spec : {M : Type 1} → statement M
-starts-physics-spec =
+pub starts_physics_spec : {M : Type 1} → statement M
+starts_physics_spec =
     tie.close
     (tie.spec
     (λ c κs. search rules)

@@ -5,8 +5,8 @@ use Rattle.draft.specs.DraftLaws.{emitting}
 use Rattle.too_rules.proofs.too_abort.Statement.{statement}
 use Rattle.too_rules.proofs.too_abort.Tie as tie
 
-pub too-abort-spec : {M : Type 1} → statement M
-too-abort-spec =
+pub too_abort_spec : {M : Type 1} → statement M
+too_abort_spec =
     tie.close
     (tie.spec
     (λ c κs. search rules)

@@ -5,8 +5,8 @@ use Rattle.draft.specs.DraftLaws.{emitting}
 use Rattle.too_rules.proofs.too_expired.Statement.{statement}
 use Rattle.too_rules.proofs.too_expired.Tie as tie
 
-pub too-expired-spec : {M : Type 1} → statement M
-too-expired-spec =
+pub too_expired_spec : {M : Type 1} → statement M
+too_expired_spec =
     tie.close
     (tie.spec
     (λ c κs. search rules)

@@ -5,8 +5,8 @@ use Rattle.draft.specs.DraftLaws.{emitting}
 use Rattle.too_rules.proofs.too_start.Statement.{statement}
 use Rattle.too_rules.proofs.too_start.Tie as tie
 
-pub too-start-spec : {M : Type 1} → statement M
-too-start-spec =
+pub too_start_spec : {M : Type 1} → statement M
+too_start_spec =
     tie.close
     (tie.spec
     (λ c κs. search rules)

@@ -5,8 +5,8 @@ use Rattle.draft.specs.DraftLaws.{emitting}
 use Rattle.too_rules.proofs.too_starting.Statement.{statement}
 use Rattle.too_rules.proofs.too_starting.Tie as tie
 
-pub too-starting-spec : {M : Type 1} → statement M
-too-starting-spec =
+pub too_starting_spec : {M : Type 1} → statement M
+too_starting_spec =
     tie.close
     (tie.spec
     (λ c κs. search rules)

@@ -4,5 +4,5 @@ use borrow.Author.Rules.{rules}
 use Rattle.events.proofs.Event.is_started.Statement.{statement}
 use Rattle.events.proofs.Event.is_started.Tie as tie
 
-pub is-started-spec : {M : Type 1} → statement M
-is-started-spec = tie.close (tie.spec (λ c κs. search rules) (λ c. simp (← c.before.taken-apart.ensures)))
+pub is_started_spec : {M : Type 1} → statement M
+is_started_spec = tie.close (tie.spec (λ c κs. search rules) (λ c. simp (← c.before.taken-apart.ensures)))

@@ -2,14 +2,14 @@
 -- Assumes nothing.
 use borrow.Author.Rules.{rules}
 use borrow.Author.Tests.{ne_eqb}
-use Rattle.kinds.specs.ArmLaws.{select-past}
-use Rattle.events.specs.Event.{eventOf, eventRows}
+use Rattle.kinds.specs.ArmLaws.{select_past}
+use Rattle.events.specs.Event.{event_of, event_rows}
 use Rattle.events.specs.declared.FoundEvent.{FoundEvent}
 use Rattle.events.proofs.Event.of.Statement.{statement}
 use Rattle.events.proofs.Event.of.Tie as tie
 
 pub of_spec : {M : Type 1} → statement M
-unfolding eventOf
+unfolding event_of
 of_spec =
     tie.close
     (tie.spec
@@ -59,4 +59,4 @@ of_spec =
     (λ c. simp (c.before.before.if1.false, c.before.match.keys21) c.bare15.ensures)
     (λ c. simp (c.before.before.if1.false, c.before.match.keys22) c.report2.ensures)
     (λ c. simp (c.before.before.if1.false, c.before.match.keys23) c.bare16.ensures)
-    (λ c. simp c.before.if1.false (select-past FoundEvent.Unknown (eventRows c.before.before.before.args.parts.a c.before.before.before.args.parts.b) _ c.match.rest)))
+    (λ c. simp c.before.if1.false (select_past FoundEvent.Unknown (event_rows c.before.before.before.args.parts.a c.before.before.before.args.parts.b) _ c.match.rest)))

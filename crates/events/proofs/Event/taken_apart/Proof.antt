@@ -1,13 +1,13 @@
 -- `Event::taken_apart`: each arm has its event's numbers.
 -- Assumes nothing.
 use borrow.Author.Rules.{rules}
-use Rattle.events.specs.Event.{partsOfEvent}
+use Rattle.events.specs.Event.{parts_of_event}
 use Rattle.events.proofs.Event.taken_apart.Statement.{statement}
 use Rattle.events.proofs.Event.taken_apart.Tie as tie
 
-pub taken-apart-spec : {M : Type 1} → statement M
-unfolding partsOfEvent
-taken-apart-spec =
+pub taken_apart_spec : {M : Type 1} → statement M
+unfolding parts_of_event
+taken_apart_spec =
     tie.close
     (tie.spec
     (λ c. search rules)

@@ -1,7 +1,7 @@
 -- `flag::of`: each arm is the flag of its number, and a number that is neither is no flag.
 -- Assumes nothing.
-use Rattle.kinds.specs.ArmLaws.{numbered-past}
-use Rattle.kinds.specs.Kinds.{flagNumber, flags}
+use Rattle.kinds.specs.ArmLaws.{numbered_past}
+use Rattle.kinds.specs.Kinds.{flag_number, flags}
 use Rattle.kinds.specs.declared.flag.FoundFlag.{FoundFlag}
 use Rattle.kinds.proofs.flag.of.Statement.{statement}
 use Rattle.kinds.proofs.flag.of.Tie as tie
@@ -12,4 +12,4 @@ of_spec =
     (tie.spec
     (λ c. simp c.match.keys1)
     (λ c. simp c.match.keys2)
-    (λ c. numbered-past flagNumber FoundFlag.Found FoundFlag.Unknown flags _ c.match.rest))
+    (λ c. numbered_past flag_number FoundFlag.Found FoundFlag.Unknown flags _ c.match.rest))

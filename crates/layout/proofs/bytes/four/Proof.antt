@@ -6,9 +6,9 @@ use Rattle.layout.specs.Bytes.{four}
 use Rattle.layout.proofs.bytes.four.Statement.{statement}
 use Rattle.layout.proofs.bytes.four.Tie as tie
 
-pub four-spec : {M : Type 1} → statement M
+pub four_spec : {M : Type 1} → statement M
 unfolding four
-four-spec =
+four_spec =
     tie.close
     (tie.spec
     (λ c. search rules)

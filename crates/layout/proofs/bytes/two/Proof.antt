@@ -6,9 +6,9 @@ use Rattle.layout.specs.Bytes.{two}
 use Rattle.layout.proofs.bytes.two.Statement.{statement}
 use Rattle.layout.proofs.bytes.two.Tie as tie
 
-pub two-spec : {M : Type 1} → statement M
+pub two_spec : {M : Type 1} → statement M
 unfolding two
-two-spec =
+two_spec =
     tie.close
     (tie.spec
     (λ c. search rules)

@@ -5,9 +5,9 @@ use Rattle.layout.specs.Bytes.{u32_at}
 use Rattle.layout.proofs.bytes.u32_at.Statement.{statement}
 use Rattle.layout.proofs.bytes.u32_at.Tie as tie
 
-pub u32-at-spec : {M : Type 1} → statement M
+pub u32_at_spec : {M : Type 1} → statement M
 unfolding u32_at
-u32-at-spec =
+u32_at_spec =
     tie.close
     (tie.spec
     (λ c. search rules)

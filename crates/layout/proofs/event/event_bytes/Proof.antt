@@ -2,13 +2,13 @@
 -- Assumes nothing.
 use borrow.Author.Rules.{rules}
 use Rattle.layout.specs.Bytes.{two, four}
-use Rattle.layout.specs.Event.{eventBytes, eventPartsBytes}
+use Rattle.layout.specs.Event.{event_bytes, event_parts_bytes}
 use Rattle.layout.proofs.event.event_bytes.Statement.{statement}
 use Rattle.layout.proofs.event.event_bytes.Tie as tie
 
-pub event-bytes-spec : {M : Type 1} → statement M
-unfolding eventBytes eventPartsBytes two four
-event-bytes-spec =
+pub event_bytes_spec : {M : Type 1} → statement M
+unfolding event_bytes event_parts_bytes two four
+event_bytes_spec =
     tie.close
     (tie.spec
     (λ c κs. search rules)

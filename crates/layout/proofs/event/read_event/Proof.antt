@@ -2,13 +2,13 @@
 -- Assumes nothing.
 use borrow.Author.Rules.{rules}
 use borrow.Author.Tests.{ne_eqb}
-use Rattle.layout.specs.Event.{EVENT, readEvent, eventPartsAt}
+use Rattle.layout.specs.Event.{EVENT, read_event, event_parts_at}
 use Rattle.layout.proofs.event.read_event.Statement.{statement}
 use Rattle.layout.proofs.event.read_event.Tie as tie
 
-pub read-event-spec : {M : Type 1} → statement M
-unfolding readEvent eventPartsAt
-read-event-spec =
+pub read_event_spec : {M : Type 1} → statement M
+unfolding read_event event_parts_at
+read_event_spec =
     tie.close
     (tie.spec
     (λ c. simp (ne_eqb _ EVENT c.if1.true))

@@ -3,8 +3,8 @@ use borrow.Author.Rules.{rules}
 use Rattle.names.proofs.columns.desk_columns.Statement.{statement}
 use Rattle.names.proofs.columns.desk_columns.Tie as tie
 
-pub desk-columns-spec : {M : Type 1} → statement M
-desk-columns-spec =
+pub desk_columns_spec : {M : Type 1} → statement M
+desk_columns_spec =
     tie.close
     (tie.spec
     (λ c κs. search rules)

@@ -3,8 +3,8 @@ use borrow.Author.Rules.{rules}
 use Rattle.names.proofs.columns.listing_columns.Statement.{statement}
 use Rattle.names.proofs.columns.listing_columns.Tie as tie
 
-pub listing-columns-spec : {M : Type 1} → statement M
-listing-columns-spec =
+pub listing_columns_spec : {M : Type 1} → statement M
+listing_columns_spec =
     tie.close
     (tie.spec
     (λ c κs. search rules)

@@ -3,27 +3,27 @@ use borrow.Author.Rules.{rules}
 use Prim.Native.Nat.{◌≤◌, ◌-◌}
 use mathlib.Core.Path.{◌≡◌}
 use lib.ListN.{length, drop}
-use Rattle.names.specs.EventNames.{eventNames, codeFrom, eventCode}
-use Rattle.names.specs.EventNamesLaws.{code-start, code-found, code-further, code-none}
+use Rattle.names.specs.EventNames.{event_names, code_from, event_code}
+use Rattle.names.specs.EventNamesLaws.{code_start, code_found, code_further, code_none}
 use Rattle.names.proofs.event_names.event_code.Statement.{statement}
 use Rattle.names.proofs.event_names.event_code.Tie as tie
 
 abbrev invariant-loop : tie.invariant-loop
-invariant-loop name code₀ code = (code ≤ length eventNames) × (codeFrom name code (drop code eventNames) ≡ eventCode name)
+invariant-loop name code₀ code = (code ≤ length event_names) × (code_from name code (drop code event_names) ≡ event_code name)
 
 abbrev decreases-loop : tie.decreases-loop
-decreases-loop name code₀ code = length eventNames - code
+decreases-loop name code₀ code = length event_names - code
 
-pub event-code-spec : {M : Type 1} → statement M
-event-code-spec =
+pub event_code_spec : {M : Type 1} → statement M
+event_code_spec =
     tie.close
     (tie.spec
     invariant-loop
     decreases-loop
-    (λ c. search (rules, code-start))
+    (λ c. search (rules, code_start))
     (λ c κs. search rules)
-    (λ c. search (rules, code-found))
+    (λ c. search (rules, code_found))
     (λ c. search rules)
     (λ c. search rules)
-    (λ c. search (rules, code-further))
-    (λ c. search (rules, code-none)))
+    (λ c. search (rules, code_further))
+    (λ c. search (rules, code_none)))

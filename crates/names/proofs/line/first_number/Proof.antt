@@ -1,12 +1,12 @@
 -- `line::first_number`: each arm is a clause of the definition. Assumes nothing.
 use borrow.Author.Rules.{rules}
-use Rattle.names.specs.Line.{firstNumber}
+use Rattle.names.specs.Line.{first_number}
 use Rattle.names.proofs.line.first_number.Statement.{statement}
 use Rattle.names.proofs.line.first_number.Tie as tie
 
-pub first-number-spec : {M : Type 1} → statement M
-unfolding firstNumber
-first-number-spec =
+pub first_number_spec : {M : Type 1} → statement M
+unfolding first_number
+first_number_spec =
     tie.close
     (tie.spec
     (λ c. search rules)

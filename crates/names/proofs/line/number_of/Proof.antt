@@ -5,9 +5,9 @@ use Rattle.names.specs.Line.{number_of}
 use Rattle.names.proofs.line.number_of.Statement.{statement}
 use Rattle.names.proofs.line.number_of.Tie as tie
 
-pub number-of-spec : {M : Type 1} → statement M
+pub number_of_spec : {M : Type 1} → statement M
 unfolding number_of
-number-of-spec =
+number_of_spec =
     tie.close
     (tie.spec
     (λ c. simp c.if1.true)

@@ -1,12 +1,12 @@
 -- `line::raw_byte`: the two digits. Assumes nothing.
 use borrow.Author.Rules.{rules}
-use Rattle.names.specs.Line.{rawByte}
+use Rattle.names.specs.Line.{raw_byte}
 use Rattle.names.proofs.line.raw_byte.Statement.{statement}
 use Rattle.names.proofs.line.raw_byte.Tie as tie
 
-pub raw-byte-spec : {M : Type 1} → statement M
-unfolding rawByte
-raw-byte-spec =
+pub raw_byte_spec : {M : Type 1} → statement M
+unfolding raw_byte
+raw_byte_spec =
     tie.close
     (tie.spec
     (λ c. search rules)

@@ -1,12 +1,12 @@
 -- `line::raw_bytes`: a byte for each pair of digits. Assumes nothing.
 use borrow.Author.Rules.{rules}
-use Rattle.names.specs.Line.{rawBytes}
+use Rattle.names.specs.Line.{raw_bytes}
 use Rattle.names.proofs.line.raw_bytes.Statement.{statement}
 use Rattle.names.proofs.line.raw_bytes.Tie as tie
 
-pub raw-bytes-spec : {M : Type 1} → statement M
-unfolding rawBytes
-raw-bytes-spec =
+pub raw_bytes_spec : {M : Type 1} → statement M
+unfolding raw_bytes
+raw_bytes_spec =
     tie.close
     (tie.spec
     (λ c κs. search rules)

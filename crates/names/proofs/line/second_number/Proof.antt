@@ -1,12 +1,12 @@
 -- `line::second_number`: each arm is a clause of the definition. Assumes nothing.
 use borrow.Author.Rules.{rules}
-use Rattle.names.specs.Line.{secondNumber}
+use Rattle.names.specs.Line.{second_number}
 use Rattle.names.proofs.line.second_number.Statement.{statement}
 use Rattle.names.proofs.line.second_number.Tie as tie
 
-pub second-number-spec : {M : Type 1} → statement M
-unfolding secondNumber
-second-number-spec =
+pub second_number_spec : {M : Type 1} → statement M
+unfolding second_number
+second_number_spec =
     tie.close
     (tie.spec
     (λ c. search rules)

@@ -3,8 +3,8 @@ use borrow.Author.Rules.{rules}
 use Rattle.names.proofs.text.ends.Statement.{statement}
 use Rattle.names.proofs.text.ends.Tie as tie
 
-pub ends-spec : {M : Type 1} → statement M
-ends-spec =
+pub ends_spec : {M : Type 1} → statement M
+ends_spec =
     tie.close
     (tie.spec
     (λ c κs. search rules)

@@ -4,7 +4,7 @@ use Prim.Native.Nat.{◌≤◌, ◌-◌, ◌+◌}
 use mathlib.Core.Path.{◌≡◌}
 use lib.ListN.{length, drop}
 use Rattle.names.specs.Text.{leading}
-use Rattle.names.proofs.TextLaws.{leading-stops, leading-turn, leading-ends}
+use Rattle.names.proofs.TextLaws.{leading_stops, leading_turn, leading-ends}
 use Rattle.names.proofs.text.leading.Statement.{statement}
 use Rattle.names.proofs.text.leading.Tie as tie
 
@@ -15,16 +15,16 @@ abbrev decreases-loop : tie.decreases-loop
 decreases-loop text separators i₀ i = length text - i
 
 returns : tie.Need-returns invariant-loop decreases-loop
-returns c = search (rules, leading-stops)
+returns c = search (rules, leading_stops)
 
 loop-again : tie.Need-loop-preserved invariant-loop decreases-loop
-loop-again c = search (rules, leading-turn)
+loop-again c = search (rules, leading_turn)
 
 returns-2 : tie.Need-returns-2 invariant-loop decreases-loop
 returns-2 c = search (rules, leading-ends)
 
-pub leading-spec : {M : Type 1} → statement M
-leading-spec =
+pub leading_spec : {M : Type 1} → statement M
+leading_spec =
     tie.close
     (tie.spec
     invariant-loop

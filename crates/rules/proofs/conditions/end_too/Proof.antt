@@ -5,8 +5,8 @@ use Rattle.draft.specs.DraftLaws.{emitting}
 use Rattle.rules.proofs.conditions.end_too.Statement.{statement}
 use Rattle.rules.proofs.conditions.end_too.Tie as tie
 
-pub end-too-spec : {M : Type 1} → statement M
-end-too-spec =
+pub end_too_spec : {M : Type 1} → statement M
+end_too_spec =
     tie.close
     (tie.spec
     (λ c κs. search rules)

@@ -5,8 +5,8 @@ use Rattle.draft.specs.DraftLaws.{emitting}
 use Rattle.rules.proofs.conditions.stop_calibration.Statement.{statement}
 use Rattle.rules.proofs.conditions.stop_calibration.Tie as tie
 
-pub stop-calibration-spec : {M : Type 1} → statement M
-stop-calibration-spec =
+pub stop_calibration_spec : {M : Type 1} → statement M
+stop_calibration_spec =
     tie.close
     (tie.spec
     (λ c κs. search rules)

@@ -5,8 +5,8 @@ use Rattle.draft.specs.DraftLaws.{emitting}
 use Rattle.rules.proofs.conditions.stop_physics.Statement.{statement}
 use Rattle.rules.proofs.conditions.stop_physics.Tie as tie
 
-pub stop-physics-spec : {M : Type 1} → statement M
-stop-physics-spec =
+pub stop_physics_spec : {M : Type 1} → statement M
+stop_physics_spec =
     tie.close
     (tie.spec
     (λ c κs. search rules)

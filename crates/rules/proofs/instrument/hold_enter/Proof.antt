@@ -5,8 +5,8 @@ use Rattle.draft.specs.DraftLaws.{emitting}
 use Rattle.rules.proofs.instrument.hold_enter.Statement.{statement}
 use Rattle.rules.proofs.instrument.hold_enter.Tie as tie
 
-pub hold-enter-spec : {M : Type 1} → statement M
-hold-enter-spec =
+pub hold_enter_spec : {M : Type 1} → statement M
+hold_enter_spec =
     tie.close
     (tie.spec
     (λ c κs. search rules)

@@ -5,8 +5,8 @@ use Rattle.draft.specs.DraftLaws.{emitting}
 use Rattle.rules.proofs.instrument.hold_exit.Statement.{statement}
 use Rattle.rules.proofs.instrument.hold_exit.Tie as tie
 
-pub hold-exit-spec : {M : Type 1} → statement M
-hold-exit-spec =
+pub hold_exit_spec : {M : Type 1} → statement M
+hold_exit_spec =
     tie.close
     (tie.spec
     (λ c κs. search rules)

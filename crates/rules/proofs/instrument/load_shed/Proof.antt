@@ -5,8 +5,8 @@ use Rattle.draft.specs.DraftLaws.{emitting}
 use Rattle.rules.proofs.instrument.load_shed.Statement.{statement}
 use Rattle.rules.proofs.instrument.load_shed.Tie as tie
 
-pub load-shed-spec : {M : Type 1} → statement M
-load-shed-spec =
+pub load_shed_spec : {M : Type 1} → statement M
+load_shed_spec =
     tie.close
     (tie.spec
     (λ c κs. search rules)

@@ -5,8 +5,8 @@ use Rattle.draft.specs.DraftLaws.{emitting}
 use Rattle.rules.proofs.instrument.main_feed_on.Statement.{statement}
 use Rattle.rules.proofs.instrument.main_feed_on.Tie as tie
 
-pub main-feed-on-spec : {M : Type 1} → statement M
-main-feed-on-spec =
+pub main_feed_on_spec : {M : Type 1} → statement M
+main_feed_on_spec =
     tie.close
     (tie.spec
     (λ c κs. search rules)

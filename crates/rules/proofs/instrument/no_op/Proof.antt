@@ -5,8 +5,8 @@ use Rattle.draft.specs.DraftLaws.{emitting}
 use Rattle.rules.proofs.instrument.no_op.Statement.{statement}
 use Rattle.rules.proofs.instrument.no_op.Tie as tie
 
-pub no-op-spec : {M : Type 1} → statement M
-no-op-spec =
+pub no_op_spec : {M : Type 1} → statement M
+no_op_spec =
     tie.close
     (tie.spec
     (λ c κs. search rules)

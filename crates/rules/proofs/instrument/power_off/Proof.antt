@@ -5,8 +5,8 @@ use Rattle.draft.specs.DraftLaws.{emitting}
 use Rattle.rules.proofs.instrument.power_off.Statement.{statement}
 use Rattle.rules.proofs.instrument.power_off.Tie as tie
 
-pub power-off-spec : {M : Type 1} → statement M
-power-off-spec =
+pub power_off_spec : {M : Type 1} → statement M
+power_off_spec =
     tie.close
     (tie.spec
     (λ c κs. search rules)

@@ -5,8 +5,8 @@ use Rattle.draft.specs.DraftLaws.{emitting}
 use Rattle.rules.proofs.instrument.power_on.Statement.{statement}
 use Rattle.rules.proofs.instrument.power_on.Tie as tie
 
-pub power-on-spec : {M : Type 1} → statement M
-power-on-spec =
+pub power_on_spec : {M : Type 1} → statement M
+power_on_spec =
     tie.close
     (tie.spec
     (λ c κs. search rules)

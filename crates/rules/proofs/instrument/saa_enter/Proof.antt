@@ -5,8 +5,8 @@ use Rattle.draft.specs.DraftLaws.{emitting}
 use Rattle.rules.proofs.instrument.saa_enter.Statement.{statement}
 use Rattle.rules.proofs.instrument.saa_enter.Tie as tie
 
-pub saa-enter-spec : {M : Type 1} → statement M
-saa-enter-spec =
+pub saa_enter_spec : {M : Type 1} → statement M
+saa_enter_spec =
     tie.close
     (tie.spec
     (λ c κs. search rules)

@@ -5,8 +5,8 @@ use Rattle.draft.specs.DraftLaws.{emitting}
 use Rattle.rules.proofs.instrument.saa_exit.Statement.{statement}
 use Rattle.rules.proofs.instrument.saa_exit.Tie as tie
 
-pub saa-exit-spec : {M : Type 1} → statement M
-saa-exit-spec =
+pub saa_exit_spec : {M : Type 1} → statement M
+saa_exit_spec =
     tie.close
     (tie.spec
     (λ c κs. search rules)

@@ -5,8 +5,8 @@ use Rattle.draft.specs.DraftLaws.{emitting}
 use Rattle.rules.proofs.instrument.shed.Statement.{statement}
 use Rattle.rules.proofs.instrument.shed.Tie as tie
 
-pub shed-spec : {M : Type 1} → statement M
-shed-spec =
+pub shed_spec : {M : Type 1} → statement M
+shed_spec =
     tie.close
     (tie.spec
     (λ c κs. search rules)

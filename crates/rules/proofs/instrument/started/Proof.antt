@@ -5,8 +5,8 @@ use Rattle.draft.specs.DraftLaws.{emitting}
 use Rattle.rules.proofs.instrument.started.Statement.{statement}
 use Rattle.rules.proofs.instrument.started.Tie as tie
 
-pub started-spec : {M : Type 1} → statement M
-started-spec =
+pub started_spec : {M : Type 1} → statement M
+started_spec =
     tie.close
     (tie.spec
     (λ c κs. search rules)

@@ -5,6 +5,6 @@ use Rattle.state.specs.State.{rebooted}
 use Rattle.state.proofs.State.rebooted.Statement.{statement}
 use Rattle.state.proofs.State.rebooted.Tie as tie
 
-pub rebooted-spec : {M : Type 1} → statement M
+pub rebooted_spec : {M : Type 1} → statement M
 unfolding rebooted
-rebooted-spec = tie.close (tie.spec (λ c. refl))
+rebooted_spec = tie.close (tie.spec (λ c. refl))

@@ -5,8 +5,8 @@ use Rattle.draft.specs.DraftLaws.{emitting}
 use Rattle.task_rules.proofs.calibration.cal_abort.Statement.{statement}
 use Rattle.task_rules.proofs.calibration.cal_abort.Tie as tie
 
-pub cal-abort-spec : {M : Type 1} → statement M
-cal-abort-spec =
+pub cal_abort_spec : {M : Type 1} → statement M
+cal_abort_spec =
     tie.close
     (tie.spec
     (λ c κs. search rules)

@@ -5,8 +5,8 @@ use Rattle.draft.specs.DraftLaws.{emitting}
 use Rattle.task_rules.proofs.calibration.cal_complete.Statement.{statement}
 use Rattle.task_rules.proofs.calibration.cal_complete.Tie as tie
 
-pub cal-complete-spec : {M : Type 1} → statement M
-cal-complete-spec =
+pub cal_complete_spec : {M : Type 1} → statement M
+cal_complete_spec =
     tie.close
     (tie.spec
     (λ c κs. search rules)

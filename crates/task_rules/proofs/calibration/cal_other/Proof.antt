@@ -5,8 +5,8 @@ use Rattle.draft.specs.DraftLaws.{emitting}
 use Rattle.task_rules.proofs.calibration.cal_other.Statement.{statement}
 use Rattle.task_rules.proofs.calibration.cal_other.Tie as tie
 
-pub cal-other-spec : {M : Type 1} → statement M
-cal-other-spec =
+pub cal_other_spec : {M : Type 1} → statement M
+cal_other_spec =
     tie.close
     (tie.spec
     (λ c κs. search rules)

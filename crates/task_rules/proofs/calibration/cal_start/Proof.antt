@@ -5,8 +5,8 @@ use Rattle.draft.specs.DraftLaws.{emitting}
 use Rattle.task_rules.proofs.calibration.cal_start.Statement.{statement}
 use Rattle.task_rules.proofs.calibration.cal_start.Tie as tie
 
-pub cal-start-spec : {M : Type 1} → statement M
-cal-start-spec =
+pub cal_start_spec : {M : Type 1} → statement M
+cal_start_spec =
     tie.close
     (tie.spec
     (λ c κs. search rules)

@@ -5,8 +5,8 @@ use Rattle.draft.specs.DraftLaws.{emitting}
 use Rattle.task_rules.proofs.calibration.cal_status.Statement.{statement}
 use Rattle.task_rules.proofs.calibration.cal_status.Tie as tie
 
-pub cal-status-spec : {M : Type 1} → statement M
-cal-status-spec =
+pub cal_status_spec : {M : Type 1} → statement M
+cal_status_spec =
     tie.close
     (tie.spec
     (λ c κs. search rules)

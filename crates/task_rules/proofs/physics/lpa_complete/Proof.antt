@@ -5,8 +5,8 @@ use Rattle.draft.specs.DraftLaws.{emitting}
 use Rattle.task_rules.proofs.physics.lpa_complete.Statement.{statement}
 use Rattle.task_rules.proofs.physics.lpa_complete.Tie as tie
 
-pub lpa-complete-spec : {M : Type 1} → statement M
-lpa-complete-spec =
+pub lpa_complete_spec : {M : Type 1} → statement M
+lpa_complete_spec =
     tie.close
     (tie.spec
     (λ c κs. search rules)

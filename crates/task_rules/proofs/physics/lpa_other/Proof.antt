@@ -5,8 +5,8 @@ use Rattle.draft.specs.DraftLaws.{emitting}
 use Rattle.task_rules.proofs.physics.lpa_other.Statement.{statement}
 use Rattle.task_rules.proofs.physics.lpa_other.Tie as tie
 
-pub lpa-other-spec : {M : Type 1} → statement M
-lpa-other-spec =
+pub lpa_other_spec : {M : Type 1} → statement M
+lpa_other_spec =
     tie.close
     (tie.spec
     (λ c κs. search rules)

@@ -5,8 +5,8 @@ use Rattle.draft.specs.DraftLaws.{emitting}
 use Rattle.task_rules.proofs.physics.lpa_start.Statement.{statement}
 use Rattle.task_rules.proofs.physics.lpa_start.Tie as tie
 
-pub lpa-start-spec : {M : Type 1} → statement M
-lpa-start-spec =
+pub lpa_start_spec : {M : Type 1} → statement M
+lpa_start_spec =
     tie.close
     (tie.spec
     (λ c κs. search rules)

@@ -5,8 +5,8 @@ use Rattle.draft.specs.DraftLaws.{emitting}
 use Rattle.task_rules.proofs.physics.lpa_status.Statement.{statement}
 use Rattle.task_rules.proofs.physics.lpa_status.Tie as tie
 
-pub lpa-status-spec : {M : Type 1} → statement M
-lpa-status-spec =
+pub lpa_status_spec : {M : Type 1} → statement M
+lpa_status_spec =
     tie.close
     (tie.spec
     (λ c κs. search rules)

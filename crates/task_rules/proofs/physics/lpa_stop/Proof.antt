@@ -5,8 +5,8 @@ use Rattle.draft.specs.DraftLaws.{emitting}
 use Rattle.task_rules.proofs.physics.lpa_stop.Statement.{statement}
 use Rattle.task_rules.proofs.physics.lpa_stop.Tie as tie
 
-pub lpa-stop-spec : {M : Type 1} → statement M
-lpa-stop-spec =
+pub lpa_stop_spec : {M : Type 1} → statement M
+lpa_stop_spec =
     tie.close
     (tie.spec
     (λ c κs. search rules)

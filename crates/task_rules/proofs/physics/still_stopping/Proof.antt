@@ -4,8 +4,8 @@ use borrow.Author.Rules.{rules}
 use Rattle.task_rules.proofs.physics.still_stopping.Statement.{statement}
 use Rattle.task_rules.proofs.physics.still_stopping.Tie as tie
 
-pub still-stopping-spec : {M : Type 1} → statement M
-still-stopping-spec =
+pub still_stopping_spec : {M : Type 1} → statement M
+still_stopping_spec =
     tie.close
     (tie.spec
     (λ c κs. search rules)

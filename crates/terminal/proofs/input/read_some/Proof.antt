@@ -56,8 +56,8 @@ same-length-3 c = search rules
 returns-3 : tie.Need-returns-3 invariant-loop decreases-loop
 returns-3 c = search rules
 
-pub read-some-spec : {M : Type 1} → statement M
-read-some-spec =
+pub read_some_spec : {M : Type 1} → statement M
+read_some_spec =
     tie.close
     (tie.spec
     invariant-loop

@@ -5,8 +5,8 @@ use native.Mathlib.Omega.{arith}
 use Rattle.terminal.proofs.input.wanted.Statement.{statement}
 use Rattle.terminal.proofs.input.wanted.Tie as tie
 
-pub wanted-spec : {M : Type 1} → statement M
-wanted-spec =
+pub wanted_spec : {M : Type 1} → statement M
+wanted_spec =
     tie.close
     (tie.spec
     (λ c. search rules)

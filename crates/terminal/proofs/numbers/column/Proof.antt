@@ -4,8 +4,8 @@ use native.Mathlib.Omega.{arith}
 use Rattle.terminal.proofs.numbers.column.Statement.{statement}
 use Rattle.terminal.proofs.numbers.column.Tie as tie
 
-pub column-spec : {M : Type 1} → statement M
-column-spec =
+pub column_spec : {M : Type 1} → statement M
+column_spec =
     tie.close
     (tie.spec
     (λ c κs. search rules)

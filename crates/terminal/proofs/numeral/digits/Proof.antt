@@ -3,13 +3,13 @@ use borrow.Author.Rules.{rules}
 use Prim.Native.Nat.{◌≤◌, ◌-◌}
 use mathlib.Core.Path.{◌≡◌}
 use lib.ListN.{length, drop}
-use Rattle.terminal.specs.Numeral.{read_on, digitsOf}
-use Rattle.terminal.proofs.NumeralLaws.{no_digit, first-digit, turn, stopped, ends-large, ends-small}
+use Rattle.terminal.specs.Numeral.{read_on, digits_of}
+use Rattle.terminal.proofs.NumeralLaws.{no_digit, first_digit, turn, stopped, ends_large, ends_small}
 use Rattle.terminal.proofs.numeral.digits.Statement.{statement}
 use Rattle.terminal.proofs.numeral.digits.Tie as tie
 
 abbrev invariant-loop : tie.invariant-loop
-invariant-loop word hex value₀ i₀ value i = (i ≤ length word) × ((value ≤ 4_294_967_296) × (read_on hex value (drop i word) ≡ digitsOf word hex))
+invariant-loop word hex value₀ i₀ value i = (i ≤ length word) × ((value ≤ 4_294_967_296) × (read_on hex value (drop i word) ≡ digits_of word hex))
 
 abbrev decreases-loop : tie.decreases-loop
 decreases-loop word hex value₀ i₀ value i = length word - i
@@ -18,7 +18,7 @@ returns : tie.Need-returns invariant-loop decreases-loop
 returns c = search (rules, no_digit)
 
 loop-holds : tie.Need-loop-init invariant-loop decreases-loop
-loop-holds c = search (rules, first-digit)
+loop-holds c = search (rules, first_digit)
 
 shared-slice-read-digit : tie.Need-shared-slice-read-digit invariant-loop decreases-loop
 shared-slice-read-digit c = search rules
@@ -42,16 +42,16 @@ loop-again : tie.Need-loop-preserved invariant-loop decreases-loop
 loop-again c = search (rules, turn)
 
 returns-3 : tie.Need-returns-3 invariant-loop decreases-loop
-returns-3 c = search (rules, ends-large)
+returns-3 c = search (rules, ends_large)
 
 cast-t12 : tie.Need-overflow-cast-t12 invariant-loop decreases-loop
 cast-t12 c = search rules
 
 returns-4 : tie.Need-returns-4 invariant-loop decreases-loop
-returns-4 c = search (rules, ends-small)
+returns-4 c = search (rules, ends_small)
 
-pub digits-spec : {M : Type 1} → statement M
-digits-spec =
+pub digits_spec : {M : Type 1} → statement M
+digits_spec =
     tie.close
     (tie.spec
     invariant-loop

@@ -41,8 +41,8 @@ loop-again c = search rules
 returns-2 : tie.Need-returns-2 invariant-loop decreases-loop
 returns-2 c = search rules
 
-pub write-whole-spec : {M : Type 1} → statement M
-write-whole-spec =
+pub write_whole_spec : {M : Type 1} → statement M
+write_whole_spec =
     tie.close
     (tie.spec
     invariant-loop

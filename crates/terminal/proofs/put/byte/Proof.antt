@@ -25,8 +25,8 @@ element-write-out-2 c = search rules
 returns-3 : tie.Need-returns-3
 returns-3 c = (search rules, (λ h. absurd (omega arith), λ h. absurd (c.if2.false (c.before.flush.ensures.1.0 h))))
 
-pub byte-spec : {M : Type 1} → statement M
-byte-spec =
+pub byte_spec : {M : Type 1} → statement M
+byte_spec =
     tie.close
     (tie.spec
     element-write-out

@@ -5,8 +5,8 @@ use Rattle.terminal.proofs.PutLaws.{room, no_room, placed}
 use Rattle.terminal.proofs.put.text.Statement.{statement}
 use Rattle.terminal.proofs.put.text.Tie as tie
 
-pub text-spec : {M : Type 1} → statement M
-text-spec =
+pub text_spec : {M : Type 1} → statement M
+text_spec =
     tie.close
     (tie.spec
     (λ c κs. search rules)

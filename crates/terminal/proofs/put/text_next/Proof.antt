@@ -5,8 +5,8 @@ use Rattle.terminal.proofs.PutLaws.{room}
 use Rattle.terminal.proofs.put.text_next.Statement.{statement}
 use Rattle.terminal.proofs.put.text_next.Tie as tie
 
-pub text-next-spec : {M : Type 1} → statement M
-text-next-spec =
+pub text_next_spec : {M : Type 1} → statement M
+text_next_spec =
     tie.close
     (tie.spec
     (λ c κs. search rules)

@@ -13,5 +13,5 @@ write-whole-requires c κs = search rules
 returns : tie.Need-returns
 returns c = search rules
 
-pub write-first-spec : {M : Type 1} → statement M
-write-first-spec = tie.close (tie.spec slice-aggregate-write-whole write-whole-requires returns)
+pub write_first_spec : {M : Type 1} → statement M
+write_first_spec = tie.close (tie.spec slice-aggregate-write-whole write-whole-requires returns)

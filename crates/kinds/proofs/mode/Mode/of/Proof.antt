@@ -1,7 +1,7 @@
 -- `Mode::of`: each arm is the kind of its number, and a number that is none of them is no kind.
 -- Assumes nothing.
-use Rattle.kinds.specs.ArmLaws.{numbered-past}
-use Rattle.kinds.specs.Kinds.{modeNumber, modes}
+use Rattle.kinds.specs.ArmLaws.{numbered_past}
+use Rattle.kinds.specs.Kinds.{mode_number, modes}
 use Rattle.kinds.specs.declared.mode.FoundMode.{FoundMode}
 use Rattle.kinds.proofs.mode.Mode.of.Statement.{statement}
 use Rattle.kinds.proofs.mode.Mode.of.Tie as tie
@@ -17,4 +17,4 @@ of_spec =
     (λ c. simp c.match.keys5)
     (λ c. simp c.match.keys6)
     (λ c. simp c.match.keys7)
-    (λ c. numbered-past modeNumber FoundMode.Found FoundMode.Unknown modes _ c.match.rest))
+    (λ c. numbered_past mode_number FoundMode.Found FoundMode.Unknown modes _ c.match.rest))
