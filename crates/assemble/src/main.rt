@@ -1,4 +1,6 @@
 // A text of events, one to a line, made into their bytes (Events). A line that cannot be read is told on standard error.
+#![tactic(auto)]
+
 use libc::STDOUT_FILENO;
 use names::{Content, Expected, Line};
 use terminal::{BUFFER, Messages, TURNS};

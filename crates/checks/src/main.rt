@@ -1,4 +1,6 @@
 // Strings of any content, each after its length in two bytes: a line a string with its check in hex (Log blocks).
+#![tactic(auto)]
+
 ghost use Rattle.std.specs.Prelude.{◌≡◌, ◌+◌, ◌*◌, ◌≤◌, length};
 
 use libc::{STDERR_FILENO, STDOUT_FILENO};

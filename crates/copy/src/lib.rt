@@ -1,4 +1,6 @@
 // The one loop that copies bytes of a string into another.
+#![tactic(auto)]
+
 ghost use Rattle.std.specs.Prelude.{◌≡◌, ◌+◌, ◌≤◌, length};
 ghost use Rattle.std.proofs.Math.Seq.{paste};
 ghost use Rattle.copy.specs.Copy.{has_room, copied};

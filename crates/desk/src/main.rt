@@ -1,4 +1,6 @@
 // Strings as long as a block to a fresh ground reader: a line a string with what it answers and holds (The ground reader).
+#![tactic(auto)]
+
 use blocks::BLOCK;
 use libc::{STDERR_FILENO, STDOUT_FILENO};
 use reader::Reader;

@@ -1,4 +1,6 @@
 // The events that the manager takes, their codes and their numbers (Events).
+#![tactic(auto)]
+
 ghost use Rattle.std.specs.Prelude.{◌≡◌};
 ghost use Rattle.events.specs.Event.{is_started, parts_of_event, event_of, event_parts, bare_event, single_event, report_event};
 ghost use Rattle.kinds.specs.Kinds.{flag_of};

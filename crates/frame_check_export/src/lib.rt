@@ -1,4 +1,6 @@
 // The check of a string, for C to link: the archive of `rt staticlib frame_check_export`.
+#![tactic(auto)]
+
 ghost use Rattle.std.specs.Prelude.{◌≡◌};
 ghost use Rattle.frame_check.specs.Check.{check_of};
 

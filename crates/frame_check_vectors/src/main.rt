@@ -1,5 +1,7 @@
 // Runs `frame_check::check` on published vectors, and against a way that takes one bit at a time, as the standard draws its
 // encoder. A line for each comparison: the check that was found, and `same` or DIFFERENT with the one expected.
+#![tactic(auto)]
+
 ghost use Rattle.std.specs.Prelude.{◌≤◌, length};
 
 use libc::STDOUT_FILENO;

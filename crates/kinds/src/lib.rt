@@ -1,4 +1,6 @@
 // The kinds that the book speaks of, with their numbers: modes, task states, LPA modes, TOO states, flags, statuses, answers.
+#![tactic(auto)]
+
 mod answer;
 pub mod flag;
 mod lpa_mode;

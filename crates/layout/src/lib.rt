@@ -1,4 +1,6 @@
 // Bytes: numbers, events and records read from strings and written to them, big-endian (Events, Records).
+#![tactic(auto)]
+
 mod bytes;
 mod event;
 mod record;

@@ -1,5 +1,7 @@
 // Runs `layout` on a block, events and records that are written out by hand, byte for byte. A line for each comparison: what was
 // found, and `same` or DIFFERENT with what was expected.
+#![tactic(auto)]
+
 ghost use Rattle.std.specs.Prelude.{◌≤◌, length};
 
 use blocks::Head;

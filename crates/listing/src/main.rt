@@ -1,4 +1,6 @@
 // Events through a fresh manager: a line an event (One listing, whole).
+#![tactic(auto)]
+
 use blocks::{BLOCK, Head};
 use kinds::Answer;
 use layout::EVENT;

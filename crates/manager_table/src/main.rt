@@ -1,6 +1,8 @@
 // Runs the manager on sequences that fill its log to the record, on flushes, and on every refusal in its order, with 0xAA in every
 // lent byte. A line for each operation: the answer's number, the log and the count after it, and what stayed as it was; and a line
 // for each block that was written, compared with one that is put together by hand with its check worked out bit by bit.
+#![tactic(auto)]
+
 use blocks::Head;
 use events::Event;
 use kinds::{LpaMode, Mode, Task, TooState};

@@ -1,5 +1,7 @@
 // The words of the paper: the names of modes, states, statuses and events, the columns of a state, and a line of text read as an event.
 // A name is handed back filled up with spaces: `first_word` is the name alone. Records are in `record_words`, which needs these.
+#![tactic(auto)]
+
 mod columns;
 mod event_names;
 mod kind_names;

@@ -1,4 +1,6 @@
 // The ranges of the numbers that are neither a kind nor a flag: dwells, masks, waits, alerts (Records).
+#![tactic(auto)]
+
 ghost use Rattle.std.specs.Prelude.{◌≡◌};
 ghost use Rattle.ranges.specs.Ranges.{dwell_in_range, mask_in_range, wait_in_range, alert_in_range};
 

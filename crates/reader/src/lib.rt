@@ -1,4 +1,6 @@
 // The ground reader: the instrument's state, from nothing but its log (The ground reader).
+#![tactic(auto)]
+
 mod content;
 mod reader;
 mod reply;

@@ -1,5 +1,7 @@
 // Runs the ground reader on blocks that are written out byte for byte, each with its check worked out bit by bit: every row of its
 // table, and every way in which a block's content can be wrong. A line for each string: the answer's number, and the reader after it.
+#![tactic(auto)]
+
 use kinds::{Mode, Task};
 use libc::STDOUT_FILENO;
 use reader::{Read, Reader};

@@ -1,4 +1,6 @@
 // Every event in every state: whether it is heard, its rule, its STATUS (Mode rules, Records).
+#![tactic(auto)]
+
 ghost use Rattle.std.specs.Prelude.{◌≡◌};
 ghost use Rattle.rules.specs.Rule.{decide};
 ghost use Rattle.rules.specs.Rules.{rule_of, unheard, verdict_of};

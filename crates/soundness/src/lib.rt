@@ -1,4 +1,6 @@
 // Which states are sound (State): the clauses (a) to (e), as they stand in the book, those of the shape first and then the numbers.
+#![tactic(auto)]
+
 ghost use Rattle.std.specs.Prelude.{◌≡◌};
 ghost use Rattle.soundness.specs.Sound.{sound, shape_sound, numbers_sound, calibration_sound, physics_sound, too_sound, boot_sound, tasks_sound};
 

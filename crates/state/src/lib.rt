@@ -1,4 +1,6 @@
 // The state of the instrument (State): fresh, and with one field changed; what a record does to it stands beside.
+#![tactic(auto)]
+
 mod effect;
 
 ghost use Rattle.std.specs.Prelude.{◌≡◌};

@@ -1,5 +1,7 @@
 // What the programs share: the words they are called with, input in groups, text and numbers written through a buffer of the caller's,
 // numbers read from words, and messages that are counted.
+#![tactic(auto)]
+
 mod arguments;
 mod group;
 mod input;

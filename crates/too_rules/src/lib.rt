@@ -1,4 +1,6 @@
 // The rules of the target of opportunity (Mode rules).
+#![tactic(auto)]
+
 ghost use Rattle.std.specs.Prelude.{◌≡◌};
 ghost use Rattle.kinds.specs.Choice.{if◌then◌else◌};
 ghost use Rattle.kinds.specs.declared.status.Status.{Status};
