@@ -97,6 +97,7 @@ impl Event {
 
     pub const LPACOMPLETE: u16 = 23;
 
+    #[tactic(auto, unfolding(crate::specs::Event::parts_of_event))]
     pub fn taken_apart(self) -> EventParts
         ensures { result ≡ parts_of_event self }
     {
@@ -127,6 +128,7 @@ impl Event {
         }
     }
 
+    #[tactic(auto, unfolding(crate::specs::Event::event_of))]
     pub fn of(parts: EventParts) -> FoundEvent
         ensures { result ≡ event_of parts }
     {
