@@ -1,6 +1,6 @@
 -- Laws of a copy: where there is room it is a paste, and else nothing; and what its loop has after a turn more.
 -- Assumes nothing.
-use Rattle.std.specs.Prelude.{ℕ, ◌+◌, ◌<◌, ◌≤◌, Bool, true, false, ◌&&◌, List, ◌≡◌, refl, length, set, get_or, leb}
+use Rattle.std.specs.Prelude.{ℕ, ◌+◌, ◌<◌, ◌≤◌, Bool, true, false, List, ◌≡◌, refl, length, set, get_or}
 use Rattle.std.proofs.Common.{add-one}
 use Rattle.std.proofs.Math.Seq.{paste, paste-suc}
 use borrow.Author.Tests.{le-leb, lt-leb}

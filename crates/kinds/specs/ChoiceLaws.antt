@@ -2,7 +2,7 @@
 -- and its numbers say the same, once each of its numbers is read back. Nothing here is of the paper.
 -- Assumes nothing.
 use Rattle.std.specs.Prelude.{ℕ, ◌<◌, Bool, true, false, ◌&&◌, List, [], ◌∷◌, ◌++◌, ◌≡◌, refl, eqb, ltb}
-use Rattle.std.proofs.Common.{true≢false, ap, eqb-true, ltb-true}
+use Rattle.std.proofs.Common.{true≢false, eqb-true, ltb-true}
 use Rattle.std.proofs.lemmas.Bool.{false≢true}
 use Rattle.std.proofs.Math.Bool.{and_assoc}
 use Rattle.kinds.specs.Choice.{if◌then◌else◌, when, every, some, numbered, select}

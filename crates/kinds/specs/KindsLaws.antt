@@ -5,10 +5,10 @@ use Rattle.std.specs.Prelude.{ℕ, ◌<◌, ◌^◌, Bool, true, false, [], ◌�
 use Rattle.std.proofs.Common.{ap}
 use Rattle.kinds.specs.Choice.{numbered, every}
 use Rattle.kinds.specs.ChoiceLaws.{Kind, kind_every, kind_below}
-use Rattle.kinds.specs.Kinds.{mode_number, modes, mode_of, mode_is}
-use Rattle.kinds.specs.Kinds.{task_number, tasks, task_of, task_is}
-use Rattle.kinds.specs.Kinds.{lpa_mode_number, lpa_modes, lpa_mode_of, lpa_mode_is}
-use Rattle.kinds.specs.Kinds.{too_state_number, too_states, too_state_of, too_state_is}
+use Rattle.kinds.specs.Kinds.{mode_number, modes, mode_of}
+use Rattle.kinds.specs.Kinds.{task_number, tasks, task_of}
+use Rattle.kinds.specs.Kinds.{lpa_mode_number, lpa_modes, lpa_mode_of}
+use Rattle.kinds.specs.Kinds.{too_state_number, too_states, too_state_of}
 use Rattle.kinds.specs.Kinds.{flag_number, flags, flag_of, status_number, statuses, status_of, refusal_order, answer_number}
 use Rattle.kinds.specs.declared.mode.Mode.{Mode}
 use Rattle.kinds.specs.declared.mode.FoundMode.{FoundMode}

@@ -4,7 +4,7 @@ ghost use Rattle.kinds.specs.Kinds.{answer_number};
 
 use crate::Status;
 
-#[derive(Drop)]
+#[derive(Clone, Copy)]
 pub enum Answer {
     // What was asked is in the log, with this status: done, or refused by the rules. A flush answers Success.
     Taken(Status),

@@ -2,7 +2,7 @@
 ghost use Rattle.std.specs.Prelude.{◌≡◌};
 ghost use Rattle.kinds.specs.Kinds.{flag_number, flag_of};
 
-#[derive(Drop)]
+#[derive(Clone, Copy)]
 pub enum FoundFlag {
     Found(bool),
     Unknown,

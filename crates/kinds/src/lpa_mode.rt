@@ -2,13 +2,13 @@
 ghost use Rattle.std.specs.Prelude.{◌≡◌};
 ghost use Rattle.kinds.specs.Kinds.{lpa_mode_number, lpa_mode_of, lpa_mode_is};
 
-#[derive(Drop)]
+#[derive(Clone, Copy)]
 pub enum LpaMode {
     Normal,
     Too,
 }
 
-#[derive(Drop)]
+#[derive(Clone, Copy)]
 pub enum FoundLpaMode {
     Found(LpaMode),
     Unknown,

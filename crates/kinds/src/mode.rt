@@ -2,7 +2,7 @@
 ghost use Rattle.std.specs.Prelude.{◌≡◌};
 ghost use Rattle.kinds.specs.Kinds.{mode_number, mode_of, mode_is};
 
-#[derive(Drop)]
+#[derive(Clone, Copy)]
 pub enum Mode {
     Boot,
     Terminal,
@@ -13,7 +13,7 @@ pub enum Mode {
     Too,
 }
 
-#[derive(Drop)]
+#[derive(Clone, Copy)]
 pub enum FoundMode {
     Found(Mode),
     Unknown,

@@ -2,14 +2,14 @@
 ghost use Rattle.std.specs.Prelude.{◌≡◌};
 ghost use Rattle.kinds.specs.Kinds.{task_number, task_of, task_is};
 
-#[derive(Drop)]
+#[derive(Clone, Copy)]
 pub enum Task {
     Idle,
     Running,
     Stopping,
 }
 
-#[derive(Drop)]
+#[derive(Clone, Copy)]
 pub enum FoundTask {
     Found(Task),
     Unknown,

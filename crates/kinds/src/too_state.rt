@@ -2,14 +2,14 @@
 ghost use Rattle.std.specs.Prelude.{◌≡◌};
 ghost use Rattle.kinds.specs.Kinds.{too_state_number, too_state_of, too_state_is};
 
-#[derive(Drop)]
+#[derive(Clone, Copy)]
 pub enum TooState {
     None,
     Waiting,
     Started,
 }
 
-#[derive(Drop)]
+#[derive(Clone, Copy)]
 pub enum FoundTooState {
     Found(TooState),
     Unknown,
