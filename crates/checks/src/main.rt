@@ -3,49 +3,49 @@
 
 ghost use Rattle.std.specs.Prelude.{◌≡◌, ◌+◌, ◌*◌, ◌≤◌, length};
 
-use libc::{STDERR_FILENO, STDOUT_FILENO};
-use terminal::{BUFFER, TURNS};
+use terminal::{BUFFER, Stream, TURNS};
 
 // The length of the longest string.
 const LONGEST: usize = 65535;
 
-fn main() {
-    if terminal::none_given() {
-        check_all();
+fn main(rt: HostRuntime) {
+    if terminal::none_given(rt) {
+        check_all(rt);
     } else {
         terminal::tell_use(
+            rt,
             b"checks: use: checks, strings on standard input, each after its length in two bytes; it takes no words\n",
         );
     }
 }
 
-fn check_all() {
+fn check_all(rt: HostRuntime) {
     let mut string = [0u8; LONGEST];
     let mut out = [0u8; BUFFER];
-    all(&mut string, &mut out);
+    all(rt, &mut string, &mut out);
 }
 
-fn all(string: &mut [u8; LONGEST], out: &mut [u8; BUFFER]) {
+fn all(rt: HostRuntime, string: &mut [u8; LONGEST], out: &mut [u8; BUFFER]) {
     let mut number: u64 = 1;
     let mut turns = TURNS;
     while turns > 0 {
-        turns = terminal::turns_left(turns, one(number, string, out));
+        turns = terminal::turns_left(turns, one(rt, number, string, out));
         number = std::num::wrapping_add_u64(number, 1);
     }
 }
 
 // Reads the string of this number and writes its check; whether there is a reason to go on.
-fn one(number: u64, string: &mut [u8; LONGEST], out: &mut [u8; BUFFER]) -> bool {
+fn one(rt: HostRuntime, number: u64, string: &mut [u8; LONGEST], out: &mut [u8; BUFFER]) -> bool {
     let mut size = [0u8; 2];
-    let came = terminal::fill(&mut size, 2);
+    let came = terminal::fill(rt, &mut size, 2);
     if came == 0 {
         return false;
     }
     if came < 2 {
-        cut(number, came, 2, b" bytes of its length came\n");
+        cut(rt, number, came, 2, b" bytes of its length came\n");
         return false;
     }
-    body(number, string, joined(size[0], size[1]), out)
+    body(rt, number, string, joined(size[0], size[1]), out)
 }
 
 fn joined(high: u8, low: u8) -> usize
@@ -55,35 +55,41 @@ fn joined(high: u8, low: u8) -> usize
     (high as usize) * 256 + (low as usize)
 }
 
-fn body(number: u64, string: &mut [u8], size: usize, out: &mut [u8; BUFFER]) -> bool
+fn body(
+    rt: HostRuntime,
+    number: u64,
+    string: &mut [u8],
+    size: usize,
+    out: &mut [u8; BUFFER],
+) -> bool
     requires { size ≤ length string.old }
 {
-    let came = terminal::fill(&mut string[..size], size);
+    let came = terminal::fill(rt, &mut string[..size], size);
     if came < size {
-        cut(number, came, size, b" bytes came\n");
+        cut(rt, number, came, size, b" bytes came\n");
         return false;
     }
-    line(frame_check::check(&string[..size]), out)
+    line(rt, frame_check::check(&string[..size]), out)
 }
 
 // Written out at once, since who sends strings one by one waits for it; whether it went.
-fn line(check: u16, out: &mut [u8; BUFFER]) -> bool {
+fn line(rt: HostRuntime, check: u16, out: &mut [u8; BUFFER]) -> bool {
     let mut digits = [0u8; 16];
     let k = io::hex(check as u64, 4, &mut digits);
-    let at = terminal::text(STDOUT_FILENO, out, 0, &digits[..k]);
-    let at = terminal::byte(STDOUT_FILENO, out, at, b'\n');
-    terminal::flush(STDOUT_FILENO, out, at) == 0
+    let at = terminal::text(Stream::Output(rt), out, 0, &digits[..k]);
+    let at = terminal::byte(Stream::Output(rt), out, at, b'\n');
+    terminal::flush(Stream::Output(rt), out, at) == 0
 }
 
 // The input has ended inside a string.
-fn cut(number: u64, came: usize, of: usize, what: &[u8]) {
+fn cut(rt: HostRuntime, number: u64, came: usize, of: usize, what: &[u8]) {
     let mut said = [0u8; BUFFER];
-    let at = terminal::text(STDERR_FILENO, &mut said, 0, b"checks: string ");
-    let at = terminal::number(STDERR_FILENO, &mut said, at, number);
-    let at = terminal::text(STDERR_FILENO, &mut said, at, b" is cut: ");
-    let at = terminal::number(STDERR_FILENO, &mut said, at, came as u64);
-    let at = terminal::text(STDERR_FILENO, &mut said, at, b" of ");
-    let at = terminal::number(STDERR_FILENO, &mut said, at, of as u64);
-    let at = terminal::text(STDERR_FILENO, &mut said, at, what);
-    terminal::flush(STDERR_FILENO, &said, at);
+    let at = terminal::text(Stream::Error(rt), &mut said, 0, b"checks: string ");
+    let at = terminal::number(Stream::Error(rt), &mut said, at, number);
+    let at = terminal::text(Stream::Error(rt), &mut said, at, b" is cut: ");
+    let at = terminal::number(Stream::Error(rt), &mut said, at, came as u64);
+    let at = terminal::text(Stream::Error(rt), &mut said, at, b" of ");
+    let at = terminal::number(Stream::Error(rt), &mut said, at, of as u64);
+    let at = terminal::text(Stream::Error(rt), &mut said, at, what);
+    terminal::flush(Stream::Error(rt), &said, at);
 }

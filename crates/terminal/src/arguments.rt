@@ -1,22 +1,43 @@
 // The words that a program was called with.
+use crate::failure::say;
 use crate::numeral::{Parsed, parse};
+use std::env::FillError;
+use std::rt::Env;
+
+// No word is longer.
+const LONGEST: usize = 4096;
 
 // The one word after the program's name, as a number: no number where there is none, or more than one.
-pub fn only_number() -> Parsed {
-    if os::arg_count() != 2 {
+pub fn only_number(rt: HostRuntime) -> Parsed {
+    if !given(rt, 1) {
         return Parsed::NoNumber;
     }
-    let mut word = io::buffer();
-    let n = os::arg(1, &mut word);
-    parse(&word[..n])
+    if given(rt, 2) {
+        return Parsed::NoNumber;
+    }
+    let mut word = [0u8; LONGEST];
+    match rt.arg(1, &mut word) {
+        Ok(n) => parse(&word[..n]),
+        Err(_) => Parsed::NoNumber,
+    }
 }
 
 // Whether there is no word after the program's name.
-pub fn none_given() -> bool {
-    os::arg_count() == 1
+pub fn none_given(rt: HostRuntime) -> bool {
+    given(rt, 0) && !given(rt, 1)
+}
+
+// Whether there is a word at a place, of whatever length. The program's name is at 0.
+fn given(rt: HostRuntime, i: usize) -> bool {
+    let mut nothing = [0u8; 0];
+    match rt.arg(i, &mut nothing) {
+        Ok(_) => true,
+        Err(FillError::TooLong) => true,
+        Err(FillError::NotPresent) => false,
+    }
 }
 
 // How a program is called, told in one line.
-pub fn tell_use(line: &[u8]) {
-    io::write_all(libc::STDERR_FILENO, line);
+pub fn tell_use(rt: HostRuntime, line: &[u8]) {
+    say(rt, line);
 }

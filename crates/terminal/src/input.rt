@@ -3,19 +3,20 @@ ghost use Rattle.std.specs.Prelude.{◌≤◌, ◌<◌, ◌≡◌, length};
 ghost use Rattle.io.specs.Counts.{IsPrefixLen};
 ghost use Rattle.terminal.specs.Input.{whole_groups, reads_on};
 
+use crate::failure::tell;
 use crate::put::BUFFER;
 use crate::retry::passes;
-use libc::STDIN_FILENO;
+use std::io::Read;
 
 // Reads once, and then what the last group still lacks (a size of 0 counts as 1), until what came is whole groups, the buffer is full,
 // or the input ends or fails; answers how many bytes came. 0, or a count that is not whole groups, says that the input has ended. A failure is told.
-pub fn fill(buf: &mut [u8], size: usize) -> usize
+pub fn fill(rt: HostRuntime, buf: &mut [u8], size: usize) -> usize
     ensures { IsPrefixLen result buf.new }
 {
     let mut done: usize = 0;
     while done < buf.len() {
         let end = wanted(done, size, buf.len());
-        let more = read_some(&mut buf[done..end]);
+        let more = read_some(rt, &mut buf[done..end]);
         if more == 0 {
             return done;
         }
@@ -70,18 +71,19 @@ fn whole(count: usize, size: usize) -> bool
 
 // One read, made again where its failure passes; 0 at the end of the input. The turns are counted down from a number that no run uses
 // up, since a proved loop has to end.
-fn read_some(buf: &mut [u8]) -> usize
+fn read_some(rt: HostRuntime, buf: &mut [u8]) -> usize
     ensures { result ≤ length buf.old }
 {
     let mut turns = u64::MAX;
     while turns > 0 {
-        let got = libc::read(STDIN_FILENO, buf);
-        if got >= 0 {
-            return io::count(got, buf);
-        }
-        if !passes() {
-            os::fail(b"standard input");
-            return 0;
+        match rt.stdin().read(buf) {
+            Ok(got) => return got,
+            Err(error) => {
+                if !passes(rt, error) {
+                    tell(rt, b"standard input", error);
+                    return 0;
+                }
+            }
         }
         turns -= 1;
     }

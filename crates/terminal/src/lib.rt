@@ -3,6 +3,7 @@
 #![tactic(auto)]
 
 mod arguments;
+mod failure;
 mod group;
 mod input;
 mod messages;
@@ -11,6 +12,7 @@ mod numeral;
 mod output;
 mod put;
 mod retry;
+mod stream;
 mod told;
 mod turns;
 
@@ -21,5 +23,6 @@ pub use messages::{Messages, tell_rest};
 pub use numbers::{column, columns};
 pub use numeral::{NO_DIGIT, Parsed, digit, parse};
 pub use put::{BROKEN, BUFFER, byte, flush, number, text};
+pub use stream::Stream;
 pub use told::tell;
 pub use turns::{TURNS, turns_left};

@@ -49,14 +49,14 @@ impl Messages {
 }
 
 // How many were not told, in one line, where there are any: a text, their number, and a text for one or for several.
-pub fn tell_rest(messages: Messages, before: &[u8], one: &[u8], several: &[u8]) {
+pub fn tell_rest(rt: HostRuntime, messages: Messages, before: &[u8], one: &[u8], several: &[u8]) {
     let rest = messages.rest();
     if rest == 0 {
         return;
     }
     if rest == 1 {
-        tell(before, 1, one);
+        tell(rt, before, 1, one);
     } else {
-        tell(before, rest, several);
+        tell(rt, before, rest, several);
     }
 }

@@ -2,18 +2,19 @@
 ghost use Rattle.std.specs.Prelude.{◌≤◌, ◌<◌, ◌≡◌};
 
 use crate::put::{BROKEN, BUFFER, byte, number};
+use crate::stream::Stream;
 
 // A number after a blank.
-pub fn column(fd: i32, out: &mut [u8; BUFFER], at: usize, n: u32) -> usize
+pub fn column(to: Stream, out: &mut [u8; BUFFER], at: usize, n: u32) -> usize
     ensures upper_bound { result ≤ 65537 }
     ensures value { 65536 < at → result ≡ 65537 }
 {
-    let after = byte(fd, out, at, b' ');
-    number(fd, out, after, n as u64)
+    let after = byte(to, out, at, b' ');
+    number(to, out, after, n as u64)
 }
 
 // Each of some numbers after a blank.
-pub fn columns(fd: i32, out: &mut [u8; BUFFER], from: usize, numbers: &[u32]) -> usize
+pub fn columns(to: Stream, out: &mut [u8; BUFFER], from: usize, numbers: &[u32]) -> usize
     ensures upper_bound { result ≤ 65537 }
     ensures value { 65536 < from → result ≡ 65537 }
 {
@@ -23,7 +24,7 @@ pub fn columns(fd: i32, out: &mut [u8; BUFFER], from: usize, numbers: &[u32]) ->
     let mut at = from;
     let mut i: usize = 0;
     while i < numbers.len() {
-        at = column(fd, out, at, numbers[i]);
+        at = column(to, out, at, numbers[i]);
         i += 1;
     }
     at

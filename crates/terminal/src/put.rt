@@ -3,6 +3,7 @@ ghost use Rattle.std.specs.Prelude.{◌≤◌, ◌<◌, ◌+◌, ◌≡◌, leng
 ghost use Rattle.terminal.specs.Put.{Placed};
 
 use crate::output::write_whole;
+use crate::stream::Stream;
 
 // The buffer's length.
 pub const BUFFER: usize = 65536;
@@ -11,7 +12,7 @@ pub const BUFFER: usize = 65536;
 pub const BROKEN: usize = 65537;
 
 // One byte more. A buffer that is full is written out first.
-pub fn byte(fd: i32, out: &mut [u8; BUFFER], at: usize, b: u8) -> usize
+pub fn byte(to: Stream, out: &mut [u8; BUFFER], at: usize, b: u8) -> usize
     ensures upper_bound { result ≤ 65537 }
     ensures value { at < 65536 → (result ≡ at + 1) × (out.new ≡ set out.old at b) }
     ensures value_2 { 65536 < at → result ≡ 65537 }
@@ -20,7 +21,7 @@ pub fn byte(fd: i32, out: &mut [u8; BUFFER], at: usize, b: u8) -> usize
         out[at] = b;
         return at + 1;
     }
-    if flush(fd, out, at) == BROKEN {
+    if flush(to, out, at) == BROKEN {
         return BROKEN;
     }
     out[0] = b;
@@ -28,7 +29,7 @@ pub fn byte(fd: i32, out: &mut [u8; BUFFER], at: usize, b: u8) -> usize
 }
 
 // A text more. Where it does not fit, the buffer is written out first; a text longer than the buffer goes straight out.
-pub fn text(fd: i32, out: &mut [u8; BUFFER], at: usize, s: &[u8]) -> usize
+pub fn text(to: Stream, out: &mut [u8; BUFFER], at: usize, s: &[u8]) -> usize
     ensures upper_bound { result ≤ 65537 }
     ensures placed { Placed out.old at s.now result out.new }
     ensures value { 65536 < at → result ≡ 65537 }
@@ -36,38 +37,38 @@ pub fn text(fd: i32, out: &mut [u8; BUFFER], at: usize, s: &[u8]) -> usize
     if copy::copy(s, s.len(), out, at) {
         return at + s.len();
     }
-    text_next(fd, out, at, s)
+    text_next(to, out, at, s)
 }
 
 // A text that does not fit after what is there.
-fn text_next(fd: i32, out: &mut [u8; BUFFER], at: usize, s: &[u8]) -> usize
+fn text_next(to: Stream, out: &mut [u8; BUFFER], at: usize, s: &[u8]) -> usize
     ensures upper_bound { result ≤ 65537 }
     ensures value { 65536 < at → result ≡ 65537 }
 {
-    if flush(fd, out, at) == BROKEN {
+    if flush(to, out, at) == BROKEN {
         return BROKEN;
     }
     if copy::copy(s, s.len(), out, 0) {
         return s.len();
     }
-    after(write_whole(fd, s))
+    after(write_whole(to, s))
 }
 
 // A number in decimal.
-pub fn number(fd: i32, out: &mut [u8; BUFFER], at: usize, n: u64) -> usize
+pub fn number(to: Stream, out: &mut [u8; BUFFER], at: usize, n: u64) -> usize
     ensures upper_bound { result ≤ 65537 }
     ensures value { 65536 < at → result ≡ 65537 }
 {
     if n < 10 {
-        return byte(fd, out, at, b'0' + n as u8);
+        return byte(to, out, at, b'0' + n as u8);
     }
     let mut digits = [0u8; 20];
     let k = io::decimal(n, &mut digits);
-    text(fd, out, at, &digits[..k])
+    text(to, out, at, &digits[..k])
 }
 
 // Writes out what the buffer has; nothing of it is taken then.
-pub fn flush(fd: i32, out: &[u8; BUFFER], at: usize) -> usize
+pub fn flush(to: Stream, out: &[u8; BUFFER], at: usize) -> usize
     ensures upper_bound { result ≤ 65537 }
     ensures value { 65536 < at → result ≡ 65537 }
     ensures value_2 { result < 65537 → result ≡ 0 }
@@ -75,13 +76,13 @@ pub fn flush(fd: i32, out: &[u8; BUFFER], at: usize) -> usize
     if at > BUFFER {
         return BROKEN;
     }
-    after(write_first(fd, out, at))
+    after(write_first(to, out, at))
 }
 
-pub(crate) fn write_first(fd: i32, out: &[u8], at: usize) -> bool
+pub(crate) fn write_first(to: Stream, out: &[u8], at: usize) -> bool
     requires { at ≤ length out.now }
 {
-    write_whole(fd, &out[..at])
+    write_whole(to, &out[..at])
 }
 
 // How much of the buffer is taken after a write, by whether it went.

@@ -2,19 +2,19 @@
 ghost use Rattle.std.specs.Prelude.{◌≤◌};
 
 use crate::put::write_first;
-use libc::STDERR_FILENO;
+use crate::stream::Stream;
 
 const LINE: usize = 256;
 
 // A text, a number and a text. A text that the line has no room for is left out.
-pub fn tell(before: &[u8], n: u64, after: &[u8]) {
+pub fn tell(rt: HostRuntime, before: &[u8], n: u64, after: &[u8]) {
     let mut digits = [0u8; 20];
     let k = io::decimal(n, &mut digits);
     let mut line = [0u8; LINE];
     let at = add(&mut line, 0, before);
     let at = add(&mut line, at, &digits[..k]);
     let at = add(&mut line, at, after);
-    send(&line, at);
+    send(rt, &line, at);
 }
 
 fn add(line: &mut [u8; LINE], at: usize, s: &[u8]) -> usize
@@ -27,8 +27,8 @@ fn add(line: &mut [u8; LINE], at: usize, s: &[u8]) -> usize
     at
 }
 
-fn send(line: &[u8; LINE], at: usize)
+fn send(rt: HostRuntime, line: &[u8; LINE], at: usize)
     requires { at ≤ 256 }
 {
-    write_first(STDERR_FILENO, line, at);
+    write_first(Stream::Error(rt), line, at);
 }
