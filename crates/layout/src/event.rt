@@ -17,6 +17,7 @@ const A_AT: usize = 4;
 const B_AT: usize = 8;
 
 // The event of a string, whatever its length and content.
+#[tactic(auto, unfolding(crate::specs::Event::read_event, crate::specs::Event::event_parts_at))]
 pub fn read_event(s: &[u8]) -> FoundEvent
     ensures { result ≡ read_event s.now }
 {
@@ -31,6 +32,7 @@ pub fn read_event(s: &[u8]) -> FoundEvent
     })
 }
 
+#[tactic(auto, unfolding(crate::specs::Event::event_bytes, crate::specs::Event::event_parts_bytes, crate::specs::Bytes::two, crate::specs::Bytes::four))]
 pub fn event_bytes(event: Event) -> [u8; EVENT]
     ensures { result ≡ event_bytes event }
 {

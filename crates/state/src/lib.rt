@@ -22,7 +22,7 @@ ghost use Rattle.state.specs.State.{
 pub use effect::one_more;
 use kinds::{LpaMode, Mode, Task, TooState};
 
-#[derive(Drop)]
+#[derive(Clone, Copy, Drop)]
 pub struct State {
     pub mode: Mode,
     pub lci: Task,
@@ -44,6 +44,7 @@ impl State {
     }
 
     // What a reboot leaves: the number of events closed.
+    #[tactic(auto, unfolding(crate::specs::State::rebooted))]
     pub fn rebooted(count: u32) -> Self
         ensures { result ≡ rebooted count }
     {
