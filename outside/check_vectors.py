@@ -5,11 +5,10 @@ usage: check_vectors.py PATH_TO_checks
 
 `checks` reads strings from standard input (a 2-byte big-endian length, then that many bytes, repeated)
 and prints each string's check as 4 hex digits a line. RUNNER, if set, is put in front of the program;
-a program for x86-64 is otherwise started as the kit's `rt` starts it.
+a program for x86-64 is otherwise started with the kit's loader and C library.
 """
 import binascii
 import os
-import platform
 import random
 import shutil
 import subprocess
@@ -33,7 +32,7 @@ def runner(program):
     if not home:
         rt = shutil.which("rt") or "/opt/rattle/bin/rt"
         home = os.path.dirname(os.path.dirname(os.path.realpath(rt)))
-    tools = os.path.join(home, "on", platform.machine(), "toolchain")
+    tools = os.path.join(home, "toolchain")
     emulator = os.path.join(tools, "bin", "qemu-x86_64")
     loader = os.path.join(tools, "lib", "ld-linux-x86-64.so.2")
     words = [emulator] if os.path.exists(emulator) else []

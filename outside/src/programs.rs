@@ -1,4 +1,4 @@
-//! Starting the programs under test, in the way the kit's `rt` does.
+//! Starting the programs under test, with the kit's loader and C library.
 
 use std::fs;
 use std::io::{Read, Write};
@@ -67,7 +67,7 @@ impl Programs {
         let mut command = Command::new(&words[0]);
         command.args(&words[1..]).args(args);
         for (key, _) in std::env::vars_os() {
-            // as rt does: the emulator listens to these
+            // the emulator listens to these
             if key.to_string_lossy().starts_with("QEMU_") {
                 command.env_remove(key);
             }
@@ -137,14 +137,14 @@ fn write_pieces(mut pipe: impl Write, input: &[u8], pieces: Option<u64>) {
     }
 }
 
-/// Programs of the gate are for x86-64 and run under the kit's loader, on another processor under the
+/// Programs of the gate are for x86-64 and run under the kit's loader, on another processor under an
 /// emulator beside the kit's compiler. Anything else (a script, a program of this machine) runs by itself.
 fn kit_runner(program: &Path) -> Result<Vec<String>, String> {
     if !is_x86_64(program)? {
         return Ok(Vec::new());
     }
     let machine = machine();
-    let tools = kit_home().join("on").join(&machine).join("toolchain");
+    let tools = kit_home().join("toolchain");
     let emulator = tools.join("bin/qemu-x86_64");
     let loader = tools.join("lib/ld-linux-x86-64.so.2");
     let mut words = Vec::new();
@@ -196,6 +196,6 @@ fn kit_home() -> PathBuf {
     std::env::split_paths(&path)
         .filter_map(|folder| fs::canonicalize(folder.join("rt")).ok())
         .filter_map(|rt| Some(rt.parent()?.parent()?.to_path_buf()))
-        .find(|home| home.join("on").is_dir())
+        .find(|home| home.join("toolchain").is_dir())
         .unwrap_or_else(|| PathBuf::from("/opt/rattle"))
 }
