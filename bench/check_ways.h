@@ -5,7 +5,7 @@
 #include <stddef.h>
 #include <stdint.h>
 
-// The proved one, from the archive that `rt staticlib frame_check_export` writes.
+// The proved one, from the archive that `rt lib` makes in crates/frame_check_export.
 uint16_t coreplough_check(const uint8_t *p, size_t n);
 
 // The same algorithm in C: eight bytes a step, modulo P^4, no table.

@@ -1,4 +1,4 @@
-// The check of a string, for C to link: the archive of `rt staticlib frame_check_export`.
+// The check of a string, for C to link: the archive that `rt lib` makes here, out/libframe_check_export.a.
 #![tactic(auto)]
 
 ghost use Rattle.std.specs.Prelude.{◌≡◌};
