@@ -1,8 +1,8 @@
 -- Events: the codes, what an event's four numbers are, and which four numbers are an event. A field that the paper does not name
 -- is 0, and numbers that are no event are refused, whatever is wrong with them.
 -- Assumes nothing.
-use Rattle.std.specs.Prelude.{ℕ, Bool, true, false, List, [], ◌∷◌, eqb}
-use Rattle.kinds.specs.Choice.{if◌then◌else◌, select}
+use Rattle.std.specs.Prelude.{ℕ, Bool, true, false, List, [], ◌∷◌, eqb, if◌then◌else◌}
+use Rattle.kinds.specs.Choice.{select}
 use Rattle.kinds.specs.Kinds.{flag_number, flag_of}
 use Rattle.kinds.specs.declared.flag.FoundFlag.{FoundFlag}
 use Rattle.events.specs.declared.Event.{Event}

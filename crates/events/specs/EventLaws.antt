@@ -1,10 +1,10 @@
 -- Events, laws: an event's four numbers are read back as that event, and four numbers that are read as an event are its numbers.
 -- The code fits 16 bits, and the zero field is zero.
 -- Assumes nothing.
-use Rattle.std.specs.Prelude.{ℕ, ◌^◌, ◌<◌, Bool, true, false, ◌≡◌, eqb, ltb}
+use Rattle.std.specs.Prelude.{ℕ, ◌^◌, ◌<◌, Bool, true, false, ◌≡◌, eqb, ltb, if◌then◌else◌}
 use Rattle.std.proofs.Math.Path.{refl}
 use Rattle.std.proofs.Common.{arith, eqb-true, ltb-true}
-use Rattle.kinds.specs.Choice.{if◌then◌else◌, select}
+use Rattle.kinds.specs.Choice.{select}
 use Rattle.kinds.specs.ChoiceLaws.{chosen, ◌and◌, EachRow, select_holds, select_listed, numbered_holds}
 use Rattle.kinds.specs.Kinds.{flag_number, flags, flag_of}
 use Rattle.events.specs.Event.{event_parts, parts_of_event, bare_event, single_event, report_event, event_rows, event_of}

@@ -1,8 +1,7 @@
 -- A list of records read one by one, as the reader reads those of a block: `reads` without the bytes. What is wrong, if something is,
 -- does not matter here.
 -- Assumes nothing.
-use Rattle.std.specs.Prelude.{ℕ, ◌+◌, List, [], ◌∷◌, ◌≡◌, eqb}
-use Rattle.kinds.specs.Choice.{if◌then◌else◌}
+use Rattle.std.specs.Prelude.{ℕ, ◌+◌, List, [], ◌∷◌, ◌≡◌, eqb, if◌then◌else◌}
 use Rattle.state.specs.declared.State.{State}
 use Rattle.records.specs.declared.Record.{Record}
 use Rattle.records.specs.declared.Reading.{Reading}

@@ -1,13 +1,8 @@
 -- How the definitions choose: by a test, and by a number that a table lists; and tests of whole lists. Nothing here is of the paper.
 -- Assumes nothing.
-use Rattle.std.specs.Prelude.{ℕ, ◌+◌, Bool, true, false, not, ◌&&◌, ◌||◌, List, [], ◌∷◌, eqb}
+use Rattle.std.specs.Prelude.{ℕ, ◌+◌, Bool, true, false, not, ◌&&◌, ◌||◌, List, [], ◌∷◌, eqb, if◌then◌else◌}
 
-infixr 20 if◌then◌else◌
 infixr 25 ◌⇒◌
-abbrev pub if◌then◌else◌ : {A : Type 0} → Bool → A → A → A
-if true then a else b = a
-if false then a else b = b
-
 -- the second holds wherever the first does
 abbrev pub ◌⇒◌ : Bool → Bool → Bool
 a ⇒ b = not a || b

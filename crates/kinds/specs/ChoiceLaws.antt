@@ -1,11 +1,11 @@
 -- How the definitions choose, laws: what holds of each choice, and of all that a list or a table has, holds of what is chosen; a kind
 -- and its numbers say the same, once each of its numbers is read back. Nothing here is of the paper.
 -- Assumes nothing.
-use Rattle.std.specs.Prelude.{ℕ, ◌<◌, Bool, true, false, ◌&&◌, List, [], ◌∷◌, ◌++◌, ◌≡◌, refl, eqb, ltb}
+use Rattle.std.specs.Prelude.{ℕ, ◌<◌, Bool, true, false, ◌&&◌, List, [], ◌∷◌, ◌++◌, ◌≡◌, refl, eqb, ltb, if◌then◌else◌}
 use Rattle.std.proofs.Common.{true≢false, eqb-true, ltb-true}
 use Rattle.std.proofs.lemmas.Bool.{false≢true}
 use Rattle.std.proofs.Math.Bool.{and_assoc}
-use Rattle.kinds.specs.Choice.{if◌then◌else◌, when, every, some, numbered, select}
+use Rattle.kinds.specs.Choice.{when, every, some, numbered, select}
 
 -- what holds of the first choice where it is taken, and of the second anyhow, holds of the one taken
 pub chosen : {A : Type 0} (P : A → Type 0) (test : Bool) (a b : A) → (test ≡ true → P a) → P b → P (if test then a else b)

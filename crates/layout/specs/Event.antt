@@ -1,7 +1,6 @@
 -- Events: 12 bytes, the code, a field that is zero, and the parameters a and b. A string of another length is no event.
 -- Assumes nothing.
-use Rattle.std.specs.Prelude.{ℕ, List, ◌++◌, length, eqb}
-use Rattle.kinds.specs.Choice.{if◌then◌else◌}
+use Rattle.std.specs.Prelude.{ℕ, List, ◌++◌, length, eqb, if◌then◌else◌}
 use Rattle.events.specs.Event.{event_of, parts_of_event}
 use Rattle.events.specs.declared.Event.{Event}
 use Rattle.events.specs.declared.EventParts.{EventParts}

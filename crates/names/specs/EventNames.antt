@@ -1,7 +1,7 @@
 -- Events: their names, by their codes, and how many numbers go with each.
 -- Assumes nothing.
-use Rattle.std.specs.Prelude.{ℕ, ◌+◌, List, [], ◌∷◌, get_or}
-use Rattle.kinds.specs.Choice.{if◌then◌else◌, select}
+use Rattle.std.specs.Prelude.{ℕ, ◌+◌, List, [], ◌∷◌, get_or, if◌then◌else◌}
+use Rattle.kinds.specs.Choice.{select}
 use Rattle.events.specs.Event.{POWERON, POWEROFF, LPASTART, TOOSTART, TOOEXPIRED, CALSTATUS, LPASTATUS}
 use Rattle.names.specs.Text.{bytes, same_word}
 

@@ -1,8 +1,7 @@
 -- Events, the laws of their names: each name is one word, and is read back as its code; a word that is no name has no code.
 -- Assumes nothing.
-use Rattle.std.specs.Prelude.{ℕ, ◌+◌, ◌<◌, ◌≤◌, Bool, true, false, List, [], ◌∷◌, ◌≡◌, refl, ltb, length, get_or, drop}
+use Rattle.std.specs.Prelude.{ℕ, ◌+◌, ◌<◌, ◌≤◌, Bool, true, false, List, [], ◌∷◌, ◌≡◌, refl, ltb, length, get_or, drop, if◌then◌else◌}
 use Rattle.std.proofs.Common.{◌∙◌, sym, ap, add-one, drop_of_length-le, drop-cons}
-use Rattle.kinds.specs.Choice.{if◌then◌else◌}
 use Rattle.events.specs.Event.{parts_of_event}
 use Rattle.events.specs.declared.Event.{Event}
 use Rattle.names.specs.Text.{padded, leading, first_word, same_word}

@@ -1,8 +1,8 @@
 -- A line of text as an event: its name, in any case, and as many numbers as go with it; or raw and the digits of the event's bytes.
 -- Whatever else the line has, it is refused with what was expected.
 -- Assumes nothing.
-use Rattle.std.specs.Prelude.{ℕ, ◌+◌, ◌*◌, ◌%◌, Bool, true, not, List, [], ◌∷◌, map, eqb, length, get_or, replicate}
-use Rattle.kinds.specs.Choice.{if◌then◌else◌, every}
+use Rattle.std.specs.Prelude.{ℕ, ◌+◌, ◌*◌, ◌%◌, Bool, true, not, List, [], ◌∷◌, map, eqb, length, get_or, replicate, if◌then◌else◌}
+use Rattle.kinds.specs.Choice.{every}
 use Rattle.events.specs.Event.{event_of, event_parts, CALSTATUS, LPASTATUS}
 use Rattle.events.specs.declared.FoundEvent.{FoundEvent}
 use Rattle.layout.specs.Event.{EVENT, event_bytes}

@@ -1,11 +1,10 @@
 -- The words of a text. A word is what stands between separators: spaces, tabs, commas, and the return that some systems put at the
 -- end of a line. A name is compared in any case. Nothing here is of the paper.
 -- Assumes nothing.
-use Rattle.std.specs.Prelude.{ℕ, ◌+◌, ◌-◌, Bool, true, false, not, ◌||◌, List, [], ◌∷◌, ◌++◌, eqb, ltb, take, drop, replicate}
+use Rattle.std.specs.Prelude.{ℕ, ◌+◌, ◌-◌, Bool, true, false, not, ◌||◌, List, [], ◌∷◌, ◌++◌, eqb, ltb, take, drop, replicate, if◌then◌else◌}
 use Prim.Native.Char.{code}
 use Prim.Native.String.{String}
 use Prim.Native.String.{[] as empty, ◌∷◌ as ◌before◌}
-use Rattle.kinds.specs.Choice.{if◌then◌else◌}
 
 -- a quoted text as its bytes
 abbrev pub bytes : String → List ℕ

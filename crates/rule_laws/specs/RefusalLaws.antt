@@ -1,11 +1,11 @@
 -- Answers of the manager, laws: an event is refused exactly where the condition of a refusal holds, with the first in their order
 -- whose condition does; a refusal has no records but its STATUS. What a rule says in any state, sound or not, stands here too.
 -- Assumes nothing.
-use Rattle.std.specs.Prelude.{ℕ, ◌+◌, ◌≤◌, Bool, true, false, ◌&&◌, ◌||◌, List, [], ◌∷◌, ◌≡◌, refl, leb}
+use Rattle.std.specs.Prelude.{ℕ, ◌+◌, ◌≤◌, Bool, true, false, ◌&&◌, ◌||◌, List, [], ◌∷◌, ◌≡◌, refl, leb, if◌then◌else◌}
 use Rattle.std.proofs.Math.Bool.{and-false, or-true}
 use Rattle.std.proofs.Common.{true≢false, sym, ◌∙◌, arith, leb-true, le-leb, eq-eqb}
 use Rattle.std.proofs.lemmas.Bool.{not-true}
-use Rattle.kinds.specs.Choice.{if◌then◌else◌, ◌⇒◌, every, some}
+use Rattle.kinds.specs.Choice.{◌⇒◌, every, some}
 use Rattle.kinds.specs.ChoiceLaws.{and_left, and_right, chosen, chosen_either, every_none, every_pushed}
 use Rattle.kinds.specs.Kinds.{status_number, status_is, refusal_place, is_refusal}
 use Rattle.kinds.specs.declared.status.Status.{Status}

@@ -1,7 +1,6 @@
 -- Mode rules, one definition an event, in the paper's order. "Else" of the paper is the refusal BadMode.
 -- Assumes nothing.
-use Rattle.std.specs.Prelude.{ℕ, Bool, true, false, not, ◌&&◌, ◌||◌, List, [], ◌∷◌, ◌++◌, eqb}
-use Rattle.kinds.specs.Choice.{if◌then◌else◌}
+use Rattle.std.specs.Prelude.{ℕ, Bool, true, false, not, ◌&&◌, ◌||◌, List, [], ◌∷◌, ◌++◌, eqb, if◌then◌else◌}
 use Rattle.events.specs.Event.{is_started}
 use Rattle.ranges.specs.Ranges.{wait_short, wait_long, alert_shed, dwell_in_range, mask_in_range}
 use Rattle.kinds.specs.declared.mode.Mode.{Mode}

@@ -1,7 +1,7 @@
 -- State: when it is sound.
 -- Assumes nothing.
-use Rattle.std.specs.Prelude.{ℕ, Bool, not, ◌&&◌, ◌||◌, eqb, leb}
-use Rattle.kinds.specs.Choice.{if◌then◌else◌, ◌⇒◌}
+use Rattle.std.specs.Prelude.{ℕ, Bool, not, ◌&&◌, ◌||◌, eqb, leb, if◌then◌else◌}
+use Rattle.kinds.specs.Choice.{◌⇒◌}
 use Rattle.kinds.specs.Kinds.{mode_is, task_is, lpa_mode_is, too_state_is}
 use Rattle.kinds.specs.declared.mode.Mode.{Mode}
 use Rattle.kinds.specs.declared.task.Task.{Task}

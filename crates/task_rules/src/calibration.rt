@@ -1,6 +1,5 @@
 // The rules of the calibration task, LCI (Mode rules).
-ghost use Rattle.std.specs.Prelude.{◌≡◌};
-ghost use Rattle.kinds.specs.Choice.{if◌then◌else◌};
+ghost use Rattle.std.specs.Prelude.{◌≡◌, if◌then◌else◌};
 ghost use Rattle.kinds.specs.declared.task.Task.{Task};
 ghost use Rattle.rules.specs.Rule.{decide};
 ghost use Rattle.rules.specs.Rules.{cal_start, cal_abort, cal_other, cal_status, cal_complete};

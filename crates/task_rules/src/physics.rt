@@ -1,6 +1,5 @@
 // The rules of the physics task, LPA (Mode rules).
-ghost use Rattle.std.specs.Prelude.{not, ◌||◌, ◌≡◌};
-ghost use Rattle.kinds.specs.Choice.{if◌then◌else◌};
+ghost use Rattle.std.specs.Prelude.{not, ◌||◌, ◌≡◌, if◌then◌else◌};
 ghost use Rattle.kinds.specs.declared.lpa_mode.LpaMode.{LpaMode};
 ghost use Rattle.kinds.specs.declared.task.Task.{Task};
 ghost use Rattle.rules.specs.Rule.{decide, lci_is, lpa_is};

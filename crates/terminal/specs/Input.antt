@@ -1,7 +1,6 @@
 -- Input in groups: whether a count of bytes is whole groups, and whether there is a reason to read on.
 -- Assumes nothing.
-use Rattle.std.specs.Prelude.{ℕ, ◌%◌, Bool, true, false, eqb, ltb}
-use Rattle.terminal.specs.Numeral.{if◌then◌else◌}
+use Rattle.std.specs.Prelude.{ℕ, ◌%◌, Bool, true, false, eqb, ltb, if◌then◌else◌}
 
 -- a size of 0 counts as 1
 unfoldable pub whole_groups : ℕ → ℕ → Bool

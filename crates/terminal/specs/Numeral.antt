@@ -1,12 +1,7 @@
 -- Numbers in words: decimal, or 0x and hexadecimal digits in either case. Every number above 4,294,967,295 is too large.
 -- Assumes nothing.
-use Rattle.std.specs.Prelude.{ℕ, ◌+◌, ◌*◌, ◌-◌, Bool, true, false, List, [], ◌∷◌, eqb, ltb, length, get_or, drop}
+use Rattle.std.specs.Prelude.{ℕ, ◌+◌, ◌*◌, ◌-◌, Bool, true, false, List, [], ◌∷◌, eqb, ltb, length, get_or, drop, if◌then◌else◌}
 use Rattle.terminal.specs.declared.numeral.Parsed.{Parsed}
-
-infixr 20 if◌then◌else◌
-abbrev pub if◌then◌else◌ : {A : Type 0} → Bool → A → A → A
-if true then a else b = a
-if false then a else b = b
 
 -- the six digits above 9; 16 is no digit
 unfoldable pub hex_letter : ℕ → ℕ

@@ -1,8 +1,7 @@
 // The rules of the target of opportunity (Mode rules).
 #![tactic(auto)]
 
-ghost use Rattle.std.specs.Prelude.{◌≡◌};
-ghost use Rattle.kinds.specs.Choice.{if◌then◌else◌};
+ghost use Rattle.std.specs.Prelude.{◌≡◌, if◌then◌else◌};
 ghost use Rattle.kinds.specs.declared.status.Status.{Status};
 ghost use Rattle.draft.specs.Draft.{emits};
 ghost use Rattle.rules.specs.Rule.{decide};
