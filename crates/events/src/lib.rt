@@ -8,7 +8,7 @@ ghost use Rattle.kinds.specs.Kinds.{flag_of};
 use kinds::flag;
 use kinds::flag::FoundFlag;
 
-#[derive(Clone, Copy, Drop)]
+#[derive(Clone, Copy)]
 pub enum Event {
     Started,
     MainFeedOn,
@@ -42,7 +42,7 @@ pub enum FoundEvent {
 }
 
 // An event as it is sent: its code, the field that is always zero, and its two parameters.
-#[derive(Clone, Copy, Drop)]
+#[derive(Clone, Copy)]
 pub struct EventParts {
     pub code: u16,
     pub zero: u16,

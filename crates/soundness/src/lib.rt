@@ -7,12 +7,14 @@ ghost use Rattle.soundness.specs.Sound.{sound, shape_sound, numbers_sound, calib
 use kinds::{LpaMode, Mode, Task, TooState};
 use state::State;
 
+#[tactic(auto, unfolding(crate::specs::Sound::sound))]
 pub fn sound(s: State) -> bool
     ensures { result ≡ sound s }
 {
     shape_sound(s) & numbers_sound(s)
 }
 
+#[tactic(auto, unfolding(crate::specs::Sound::shape_sound))]
 fn shape_sound(s: State) -> bool
     ensures { result ≡ shape_sound s }
 {
@@ -30,6 +32,7 @@ fn numbers_sound(s: State) -> bool
     s.armed <= s.count
 }
 
+#[tactic(auto, unfolding(crate::specs::Sound::calibration_sound))]
 fn calibration_sound(s: State) -> bool
     ensures { result ≡ calibration_sound s }
 {
@@ -39,6 +42,7 @@ fn calibration_sound(s: State) -> bool
     (!lci.is(Task::Running) | calibrating) & (!calibrating | !lci.is(Task::Idle))
 }
 
+#[tactic(auto, unfolding(crate::specs::Sound::physics_sound))]
 fn physics_sound(s: State) -> bool
     ensures { result ≡ physics_sound s }
 {
@@ -51,6 +55,7 @@ fn physics_sound(s: State) -> bool
     (!lpa.is(Task::Running) | (normal | too) & !s.saa) & (!physics | !lpa.is(Task::Idle))
 }
 
+#[tactic(auto, unfolding(crate::specs::Sound::too_sound))]
 fn too_sound(s: State) -> bool
     ensures { result ≡ too_sound s }
 {
@@ -65,6 +70,7 @@ fn too_sound(s: State) -> bool
     }
 }
 
+#[tactic(auto, unfolding(crate::specs::Sound::boot_sound))]
 fn boot_sound(s: State) -> bool
     ensures { result ≡ boot_sound s }
 {
@@ -79,6 +85,7 @@ fn boot_sound(s: State) -> bool
     !booting | quiet & too.is(TooState::None) & !(s.armed != 0)
 }
 
+#[tactic(auto, unfolding(crate::specs::Sound::tasks_sound))]
 fn tasks_sound(s: State) -> bool
     ensures { result ≡ tasks_sound s }
 {

@@ -22,7 +22,7 @@ ghost use Rattle.state.specs.State.{
 pub use effect::one_more;
 use kinds::{LpaMode, Mode, Task, TooState};
 
-#[derive(Clone, Copy, Drop)]
+#[derive(Clone, Copy)]
 pub struct State {
     pub mode: Mode,
     pub lci: Task,
