@@ -6,7 +6,7 @@ use Rattle.events.specs.Event.{parts_of_event}
 use Rattle.events.specs.declared.Event.{Event}
 use Rattle.names.specs.Text.{padded, leading, first_word, same_word}
 use Rattle.names.specs.EventNames.{event_names, event_name, code_from, event_code, event_numbers}
-use Rattle.names.specs.TableLaws.{same_bytes, same_bytes, every_at}
+use Rattle.names.specs.TableLaws.{same_bytes, same_bytes_lem, every_at}
 
 one_word : List ℕ → Bool
 one_word name = same_bytes (first_word (padded name)) name
@@ -14,7 +14,7 @@ one_word name = same_bytes (first_word (padded name)) name
 -- a name is one word, and fits its room
 pub event_word : (n : ℕ) → first_word (padded (event_name n)) ≡ event_name n
 unfolding event_name one_word same_bytes first_word leading
-event_word n = same_bytes (first_word (padded (get_or event_names n []))) (get_or event_names n []) (every_at one_word event_names n [] refl refl)
+event_word n = same_bytes_lem (first_word (padded (get_or event_names n []))) (get_or event_names n []) (every_at one_word event_names n [] refl refl)
 
 -- The search for a name's code -----------------------------------------------------------------------------------------------
 

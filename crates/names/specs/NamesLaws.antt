@@ -13,7 +13,7 @@ use Rattle.kinds.specs.declared.too_state.TooState.{TooState}
 use Rattle.kinds.specs.declared.status.Status.{Status}
 use Rattle.kinds.specs.declared.status.FoundStatus.{FoundStatus}
 use Rattle.names.specs.Text.{padded}
-use Rattle.names.specs.TableLaws.{same_bytes, same_bytes}
+use Rattle.names.specs.TableLaws.{same_bytes, same_bytes_lem}
 use Rattle.names.specs.Names.{mode_name, task_name, lpa_mode_name, too_state_name, status_name}
 
 module _ {A : Type 0} (number : A → ℕ) (name : A → List ℕ) (xs : List A) where
@@ -33,7 +33,7 @@ module _ {A : Type 0} (number : A → ℕ) (name : A → List ℕ) (xs : List A)
   is_placed x passed n is =
       rw is (
         ltb-true (number x) (length xs) (and_left (ltb (number x) (length xs)) (same_bytes (get_or rows (number x) []) (padded (name x))) passed),
-        same_bytes (get_or rows (number x) []) (padded (name x))
+        same_bytes_lem (get_or rows (number x) []) (padded (name x))
             (and_right (ltb (number x) (length xs)) (same_bytes (get_or rows (number x) []) (padded (name x))) passed),
       )
 
