@@ -1,11 +1,6 @@
 -- A text that is put into a buffer: what the copy's answer says of the room, and where the text then stands. Assumes nothing.
-use Prim.Native.Nat.{ℕ, ◌+◌, ◌<◌, ◌≤◌}
-use mathlib.Core.Bool.{Bool, true, false}
-use mathlib.Core.List.{List}
-use mathlib.Core.Path.{◌≡◌, refl, ◌∙◌, sym}
-use native.Mathlib.Omega.{arith}
-use lib.ListN.{length}
-use lib.Dec.{leb}
+use Rattle.std.proofs.Common.{ℕ, ◌+◌, ◌≤◌, ◌≡◌, refl, ◌∙◌, sym, Bool, true, false, List, length, arith}
+use Rattle.std.specs.Prelude.{leb}
 use borrow.Author.Tests.{leb-true, leb-false}
 use Rattle.copy.specs.CopyLaws.{Copies, copied_room, copied_narrow}
 use Rattle.terminal.specs.Put.{Placed}

@@ -48,6 +48,7 @@ fn wanted(done: usize, size: usize, long: usize) -> usize
 }
 
 // Whether to read on after so many bytes, with so much of the output's buffer taken.
+#[tactic(auto, unfolding(crate::specs::Input::reads_on))]
 pub fn reads_on(count: usize, size: usize, at: usize) -> bool
     ensures { result ≡ reads_on count size at }
 {
@@ -60,6 +61,7 @@ pub fn reads_on(count: usize, size: usize, at: usize) -> bool
     whole(count, size)
 }
 
+#[tactic(auto, unfolding(crate::specs::Input::whole_groups))]
 fn whole(count: usize, size: usize) -> bool
     ensures { result ≡ whole_groups count size }
 {

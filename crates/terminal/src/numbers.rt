@@ -7,7 +7,7 @@ use crate::stream::Stream;
 // A number after a blank.
 pub fn column(to: Stream, out: &mut [u8; BUFFER], at: usize, n: u32) -> usize
     ensures upper_bound { result ≤ 65537 }
-    ensures value { 65536 < at → result ≡ 65537 }
+    ensures stays_broken { 65536 < at → result ≡ 65537 }
 {
     let after = byte(to, out, at, b' ');
     number(to, out, after, n as u64)
@@ -16,7 +16,7 @@ pub fn column(to: Stream, out: &mut [u8; BUFFER], at: usize, n: u32) -> usize
 // Each of some numbers after a blank.
 pub fn columns(to: Stream, out: &mut [u8; BUFFER], from: usize, numbers: &[u32]) -> usize
     ensures upper_bound { result ≤ 65537 }
-    ensures value { 65536 < from → result ≡ 65537 }
+    ensures stays_broken { 65536 < from → result ≡ 65537 }
 {
     if from > BUFFER {
         return BROKEN;

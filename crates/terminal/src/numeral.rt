@@ -15,6 +15,7 @@ const ABOVE: u64 = 4_294_967_296;
 // No digit of any base.
 pub const NO_DIGIT: u64 = 16;
 
+#[tactic(auto, unfolding(crate::specs::Numeral::parsed))]
 pub fn parse(word: &[u8]) -> Parsed
     ensures { result ≡ parsed word.now }
 {
@@ -30,6 +31,7 @@ pub fn parse(word: &[u8]) -> Parsed
     digits(&word[2..], true)
 }
 
+#[tactic(auto, unfolding(crate::specs::Numeral::digits_of))]
 fn digits(word: &[u8], hex: bool) -> Parsed
     ensures { result ≡ digits_of word.now hex }
 {
@@ -53,6 +55,7 @@ fn digits(word: &[u8], hex: bool) -> Parsed
 }
 
 // The number that a byte stands for as a digit, and 16 where it is none.
+#[tactic(auto, unfolding(crate::specs::Numeral::digit_of))]
 pub fn digit(b: u8, hex: bool) -> u64
     ensures value { result ≡ digit_of b hex }
     ensures upper_bound { result ≤ 16 }
@@ -70,6 +73,7 @@ pub fn digit(b: u8, hex: bool) -> u64
 }
 
 // The same of the six digits above 9, in either case.
+#[tactic(auto, unfolding(crate::specs::Numeral::hex_letter))]
 fn hex_letter(b: u8) -> u64
     ensures value { result ≡ hex_letter b }
     ensures upper_bound { result ≤ 16 }
@@ -90,6 +94,7 @@ fn hex_letter(b: u8) -> u64
 }
 
 // The number with a digit more.
+#[tactic(auto, unfolding(crate::specs::Numeral::with_digit))]
 fn with_digit(value: u64, hex: bool, d: u64) -> u64
     requires value_bound { value ≤ 4_294_967_296 }
     requires d_bound { d ≤ 16 }
@@ -102,6 +107,7 @@ fn with_digit(value: u64, hex: bool, d: u64) -> u64
     capped(value * 10 + d)
 }
 
+#[tactic(auto, unfolding(crate::specs::Numeral::capped))]
 fn capped(n: u64) -> u64
     ensures value { result ≡ capped n }
     ensures upper_bound { result ≤ 4_294_967_296 }

@@ -1,5 +1,5 @@
 // Bytes written out whole, however slowly they are taken.
-ghost use Rattle.std.specs.Prelude.{◌≤◌, length};
+ghost use Rattle.std.specs.Prelude.{◌≤◌, ◌≡◌, length};
 
 use crate::failure::tell;
 use crate::retry::passes;

@@ -14,8 +14,8 @@ pub const BROKEN: usize = 65537;
 // One byte more. A buffer that is full is written out first.
 pub fn byte(to: Stream, out: &mut [u8; BUFFER], at: usize, b: u8) -> usize
     ensures upper_bound { result ≤ 65537 }
-    ensures value { at < 65536 → (result ≡ at + 1) × (out.new ≡ set out.old at b) }
-    ensures value_2 { 65536 < at → result ≡ 65537 }
+    ensures placed { at < 65536 → (result ≡ at + 1) × (out.new ≡ set out.old at b) }
+    ensures stays_broken { 65536 < at → result ≡ 65537 }
 {
     if at < BUFFER {
         out[at] = b;
@@ -32,7 +32,7 @@ pub fn byte(to: Stream, out: &mut [u8; BUFFER], at: usize, b: u8) -> usize
 pub fn text(to: Stream, out: &mut [u8; BUFFER], at: usize, s: &[u8]) -> usize
     ensures upper_bound { result ≤ 65537 }
     ensures placed { Placed out.old at s.now result out.new }
-    ensures value { 65536 < at → result ≡ 65537 }
+    ensures stays_broken { 65536 < at → result ≡ 65537 }
 {
     if copy::copy(s, s.len(), out, at) {
         return at + s.len();
@@ -43,7 +43,7 @@ pub fn text(to: Stream, out: &mut [u8; BUFFER], at: usize, s: &[u8]) -> usize
 // A text that does not fit after what is there.
 fn text_next(to: Stream, out: &mut [u8; BUFFER], at: usize, s: &[u8]) -> usize
     ensures upper_bound { result ≤ 65537 }
-    ensures value { 65536 < at → result ≡ 65537 }
+    ensures stays_broken { 65536 < at → result ≡ 65537 }
 {
     if flush(to, out, at) == BROKEN {
         return BROKEN;
@@ -57,7 +57,7 @@ fn text_next(to: Stream, out: &mut [u8; BUFFER], at: usize, s: &[u8]) -> usize
 // A number in decimal.
 pub fn number(to: Stream, out: &mut [u8; BUFFER], at: usize, n: u64) -> usize
     ensures upper_bound { result ≤ 65537 }
-    ensures value { 65536 < at → result ≡ 65537 }
+    ensures stays_broken { 65536 < at → result ≡ 65537 }
 {
     if n < 10 {
         return byte(to, out, at, b'0' + n as u8);
@@ -70,8 +70,8 @@ pub fn number(to: Stream, out: &mut [u8; BUFFER], at: usize, n: u64) -> usize
 // Writes out what the buffer has; nothing of it is taken then.
 pub fn flush(to: Stream, out: &[u8; BUFFER], at: usize) -> usize
     ensures upper_bound { result ≤ 65537 }
-    ensures value { 65536 < at → result ≡ 65537 }
-    ensures value_2 { result < 65537 → result ≡ 0 }
+    ensures stays_broken { 65536 < at → result ≡ 65537 }
+    ensures emptied { result < 65537 → result ≡ 0 }
 {
     if at > BUFFER {
         return BROKEN;
@@ -88,7 +88,7 @@ pub(crate) fn write_first(to: Stream, out: &[u8], at: usize) -> bool
 // How much of the buffer is taken after a write, by whether it went.
 fn after(went: bool) -> usize
     ensures upper_bound { result ≤ 65537 }
-    ensures value { result < 65537 → result ≡ 0 }
+    ensures emptied { result < 65537 → result ≡ 0 }
 {
     if went { 0 } else { BROKEN }
 }

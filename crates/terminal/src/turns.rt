@@ -6,9 +6,10 @@ ghost use Rattle.terminal.specs.Turns.{turns_left};
 pub const TURNS: u64 = u64::MAX;
 
 // The turns that are left after one: none where there is no reason to go on.
+#[tactic(auto, unfolding(crate::specs::Turns::turns_left))]
 pub fn turns_left(turns: u64, more: bool) -> u64
     ensures value { result ≡ turns_left turns more }
-    ensures upper_bound { result ≤ turns - 1 }
+    ensures fewer { result ≤ turns - 1 }
 {
     if turns == 0 {
         return 0;

@@ -1,0 +1,9 @@
+-- `fill`: the count stays within the buffer, whose length stays.
+use Rattle.std.proofs.Common.{◌≤◌, ◌≡◌, ◌-◌, length}
+use Rattle.terminal.proofs.input.fill.Given as goal
+
+abbrev pub invariant-loop-done : goal.invariant-loop-done
+invariant-loop-done l = (l.done ≤ length l.buf) × (length l.buf ≡ length l.initial.buf)
+
+abbrev pub decreases-loop-done : goal.decreases-loop-done
+decreases-loop-done l = length l.initial.buf - l.done
