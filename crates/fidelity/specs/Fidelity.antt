@@ -25,14 +25,14 @@ use mathlib.Core.List.{List, Sublistᴰ}
 use Rattle.reader.specs.Reader.{is_behind}
 use Rattle.fidelity.specs.Pass.{Operation, EventBytes, Run, run_of, At, last_event, Delivery, Ground, ground_of, Missed}
 
-module _ (run : Run) (delivered : List (List ℕ)) (ground : Ground) where
+module _ (run : Run) (delivered : List (List ℕ)) (station : Ground) where
   -- what is shown: the state, under the number of the event after which the manager had it
   abbrev ShownAt : ℕ → Type 0
-  ShownAt event = At run.states event ground.reader.state
+  ShownAt event = At run.states event station.reader.state
 
   pub record Faithful : Type 0 where
-    pub shown : ShownAt ground.reader.state.count
-    pub behind : (is_behind ground.reader ≡ true) ↔ Missed run.blocks delivered ground.applied
+    pub shown : ShownAt station.reader.state.count
+    pub behind : (is_behind station.reader ≡ true) ↔ Missed run.blocks delivered station.applied
     pub complete : Sublistᴰ run.blocks delivered → ShownAt (last_event run.blocks)
 
 abbrev pub Fidelity : Type 0

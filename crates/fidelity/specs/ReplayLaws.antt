@@ -2,7 +2,7 @@
 -- its end; and the records of an event are replayed to the state that they lead to.
 -- Assumes nothing.
 use Rattle.std.specs.Prelude.{ℕ, ◌+◌, ◌^◌, ◌<◌, true, false, List, [], ◌∷◌, ◌++◌, ◌≡◌, length, eqb}
-use Rattle.std.proofs.Common.{append_assoc, ap, sym, ◌∙◌, arith, eqb-true, eq-eqb, ltb-true, length-append}
+use Rattle.std.proofs.Common.{append_assoc, ap, subst, sym, ◌∙◌, arith, eqb-true, eq-eqb, ltb-true, length-append}
 use Rattle.std.proofs.lemmas.Bool.{lt-leb, not-true}
 use Rattle.kinds.specs.Choice.{every}
 use Rattle.kinds.specs.ChoiceLaws.{and_left, and_right, chosen_either}
@@ -92,7 +92,7 @@ stand_at pre post (r ∷ rs) at here range fit = (
   rw (← here, ← append_assoc pre (record_bytes r) (records_bytes rs), append_assoc (pre ++ record_bytes r) (records_bytes rs) post)
       (record_read pre (records_bytes rs ++ post) r (and_left (record_in_range r) (every record_in_range rs) range)
       (ltb-true (parts_of_record r).v (2 ^ 32) (and_left (v_fits r) (every v_fits rs) fit))),
-  rw (← append_assoc pre (record_bytes r) (records_bytes rs))
+  subst (λ (b : List ℕ). StandIn b (at + 1) rs) (ap (λ (b : List ℕ). b ++ post) (append_assoc pre (record_bytes r) (records_bytes rs)))
       (stand_at (pre ++ record_bytes r) post rs (at + 1)
       (length-append pre (record_bytes r) ∙ omega (arith, record_bytes-length r))
       (and_right (record_in_range r) (every record_in_range rs) range)
