@@ -1,5 +1,5 @@
 // The rules of the target of opportunity (Mode rules).
-#![tactic(auto)]
+#![tactic(auto, using(draft::specs::DraftLaws::emitting))]
 
 ghost use Rattle.std.specs.Prelude.{◌≡◌, if◌then◌else◌};
 ghost use Rattle.kinds.specs.declared.status.Status.{Status};
