@@ -14,7 +14,7 @@
 --
 -- `run_of` and `ground_of` are folds of `manager_step`, `manager_flush` and `read_of`, the definitions that the contracts of `manager::step`,
 -- `manager::flush` and `reader::read` cite: what is said here is said of the code. Their words stand in Pass. It is proved in Proof;
--- RunLaws proves besides that state n of a run is one in which n events are counted (run-numbered).
+-- RunLaws proves besides that state n of a run is one in which n events are counted (run_numbered).
 --
 -- Three things are assumed, and each is needed. The events' strings are bytes, as their type in the code says: a mask of 2 ^ 32 would
 -- be written as 0, and read back as nonsense. The log number is below 2 ^ 32, as its type says: otherwise the blocks carry another.

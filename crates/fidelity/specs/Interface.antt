@@ -2,17 +2,17 @@
 -- put together from the laws of the rules; the other files of this crate name no rule, and open neither a verdict, nor `sound`, nor `effect`. A new
 -- event, rule, mode or record is paid for in `rules` and `rule_laws` and does not touch this crate.
 --
--- Of the rules: script-form, records-no-status, records-length, script-range, script-fits, next-count, next-sound, ruling-sized,
--- ruling-state, ruling-used, ruling-bytes.
--- Of the state: one-more-below; effect-count (no record but STATUS changes the count). Opened: `rebooted`, that fresh has count 0, and `parts_of_record`
+-- Of the rules: script_form, records_no_status, records-length, script_range, script-fits, next_count, next-sound, ruling_sized,
+-- ruling_state, ruling_used, ruling-bytes.
+-- Of the state: one_more_below; effect_count (no record but STATUS changes the count). Opened: `rebooted`, that fresh has count 0, and `parts_of_record`
 -- at STATUS, that v is the event's number.
--- Of the layouts and blocks: event-fits (an event that is read from bytes has 32-bit numbers); record-read, record-bytes-length, records-bytes-append; head-length,
--- checked-length, block-intact, block-head; intact-length, intact-check, intact-other-length, intact-wrong-check. Opened: `block_bytes`,
+-- Of the layouts and blocks: event-fits (an event that is read from bytes has 32-bit numbers); record_read, record_bytes-length, records-bytes-append; head-length,
+-- checked_length, block_intact, block_head; intact-length, intact_check, intact_other_length, intact_wrong_check. Opened: `block_bytes`,
 -- `checked_bytes`, `zeros_between`.
--- Of the reader: its table row by row (read-damaged, read-other-log, read-already, read-gap, read-in-turn), fresh-sound, read-sound,
--- content-read. Opened: `went_by`, `went_closed`, `reads`.
--- Of the manager: which case a step and a flush come to (step-cases, flush-cases), and what its own test of soundness tells (state-sound,
--- log-clauses, used-before). Opened: nothing.
+-- Of the reader: its table row by row (read_damaged, read_other_log, read_already, read_gap, read_in_turn), fresh-sound, read_sound,
+-- content_read. Opened: `went_by`, `went_closed`, `reads`.
+-- Of the manager: which case a step and a flush come to (step_cases, flush_cases), and what its own test of soundness tells (state_sound,
+-- log_clauses, used_before). Opened: nothing.
 -- Assumes nothing.
 use Rattle.std.specs.Prelude.{◌+◌, ◌*◌, ◌<◌, true, List, [], ◌∷◌, ◌++◌, ◌≡◌, length, take}
 use Rattle.kinds.specs.Choice.{every}
