@@ -18,7 +18,8 @@ use Rattle.records.specs.declared.Record.{Record}
 use Rattle.records.specs.declared.Reading.{Reading}
 use Rattle.layout.specs.Bytes.{two}
 use Rattle.blocks.specs.Block.{records_at, used_most, RECORDS, check_at, head_of, used_in_range, head_bytes, checked_bytes, block_bytes}
-use Rattle.blocks.specs.BlockLaws.{head-length, checked_length, block_intact, block_head}
+use Rattle.blocks.specs.BlockLaws.{head-length}
+use Rattle.blocks.proofs.WrittenLaws.{checked_length, block_intact, block_head}
 use Rattle.layout.specs.Record.{RECORD, read_record, records_bytes}
 use Rattle.layout.specs.RecordLaws.{records-bytes-append}
 use Rattle.blocks.specs.Zeros.{zeros_between}
