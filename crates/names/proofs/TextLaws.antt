@@ -1,31 +1,13 @@
 -- Loops over a text: a turn of each, and where it ends.
 -- Assumes nothing.
-use Prim.Native.Nat.{ℕ, suc, ◌+◌, ◌-◌, ◌<◌, ◌≤◌}
-use mathlib.Core.Bool.{Bool, true, false}
-use mathlib.Core.List.{List, [], ◌∷◌}
-use mathlib.Core.Path.{◌≡◌, refl, ◌∙◌, sym, ap, subst}
-use native.Mathlib.Numerals.{add-one}
-use native.Mathlib.Omega.{arith}
-use lib.ListN.{length, take, drop, get_or, length-take, length-drop, drop_of_length-le}
-use lib.Seq.{drop-cons, take_all}
-use lib.Dec.{eqb}
-use borrow.Author.Tests.{lt-ltb, le-ltb, eq-eqb, ne_eqb}
-use borrow.Author.Rules.{rules}
-use Rattle.kinds.specs.Choice.{every}
+use Rattle.std.proofs.Common.{ℕ, suc, ◌+◌, ◌<◌, ◌≤◌, ◌≡◌, refl, ◌∙◌, sym, ap, subst, Bool, true, false, List, [], ◌∷◌, length, drop, get_or, add-one, drop-cons, drop_of_length-le, arith}
+use Rattle.std.specs.Prelude.{eqb}
+use borrow.Author.Tests.{eq-eqb, ne_eqb}
 use Rattle.kinds.specs.ChoiceLaws.{chosen}
-use Rattle.terminal.specs.Numeral.{digit_of}
-use Rattle.names.specs.Line.{is_hex_digit}
 use Rattle.names.specs.Text.{ends, leading, upper, same_word}
 
 left-cons : (t : List ℕ) (i : ℕ) → i < length t → drop i t ≡ get_or t i 0 ∷ drop (i + 1) t
 left-cons t i more = drop-cons t i 0 more ∙ rw (add-one) refl
-
--- the part of a text from a place on, as the code takes it
-pub rest_from : (t : List ℕ) (n m : ℕ) → n ≡ m → take (length t - n) (drop n t) ≡ drop m t
-rest_from t n m e = take_all (length t - n) (drop n t) (rw (length-drop n t) (search rules)) ∙ ap (λ k. drop k t) e
-
-pub first_long : (t : List ℕ) (n : ℕ) → n ≤ length t → n ≡ length (take n t)
-first_long t n within = rw (length-take n t) (omega (arith, within))
 
 -- Leading bytes ------------------------------------------------------------------------------------------------------------
 
@@ -57,8 +39,8 @@ module _ (separators : Bool) (t : List ℕ) (i n : ℕ) where
       ap (leading separators) (left-cons t i more) ∙ one_more_lem separators (get_or t i 0) (drop (i + 1) t) (sym is ∙ alike)
       in omega (arith, e, one_left)
 
-  pub leading-ends : length t ≤ i → i + leading separators (drop i t) ≡ n → i ≡ n
-  leading-ends past e =
+  pub leading_ends : length t ≤ i → i + leading separators (drop i t) ≡ n → i ≡ n
+  leading_ends past e =
       let zero_left : leading separators (drop i t) ≡ 0 =
       ap (leading separators) (drop_of_length-le t {i = i} past) ∙ no_bytes separators
       in omega (arith, e, zero_left)
@@ -103,32 +85,3 @@ module _ (w name : List ℕ) (i : ℕ) (r : Bool) where
   pub same_ends : length w ≤ i → length w ≡ length name → same_word (drop i w) (drop i name) ≡ r → true ≡ r
   same_ends past long e =
       sym (rw (drop_of_length-le w {i = i} past, drop_of_length-le name {i = i} (subst (λ n. n ≤ i) long past)) nothing_left) ∙ e
-
--- An upper letter ----------------------------------------------------------------------------------------------------------
-
-pub upper_before : (b : ℕ) → b < 97 → b ≡ upper b
-upper_before b l = rw (lt-ltb b 97 l) refl
-
-pub upper_small : (b : ℕ) → 97 ≤ b → b ≤ 122 → b - 32 ≡ upper b
-upper_small b m l = rw (le-ltb b 97 m, le-ltb 122 b l) refl
-
-pub upper-after : (b : ℕ) → 97 ≤ b → 122 < b → b ≡ upper b
-upper-after b m l = rw (le-ltb b 97 m, lt-ltb 122 b l) refl
-
--- Hex digits ---------------------------------------------------------------------------------------------------------------
-
-module _ (digits : List ℕ) (i : ℕ) (r : Bool) where
-  hex_first : i < length digits
-      → every is_hex_digit (drop i digits) ≡ every is_hex_digit (get_or digits i 0 ∷ drop (i + 1) digits)
-  hex_first more = ap (every is_hex_digit) (left-cons digits i more)
-
-  pub hex_stops : i < length digits → (d : ℕ) → d ≡ digit_of (get_or digits i 0) true → d ≡ 16
-      → every is_hex_digit (drop i digits) ≡ r → false ≡ r
-  hex_stops more d is none e = sym (hex_first more ∙ rw (eq-eqb (digit_of (get_or digits i 0) true) 16 (sym is ∙ none)) refl) ∙ e
-
-  pub hex_turn : i < length digits → (d : ℕ) → d ≡ digit_of (get_or digits i 0) true → (d ≡ 16 → ⊥)
-      → every is_hex_digit (drop i digits) ≡ r → every is_hex_digit (drop (i + 1) digits) ≡ r
-  hex_turn more d is one e = sym (hex_first more ∙ rw (ne_eqb (digit_of (get_or digits i 0) true) 16 (λ z. one (is ∙ z))) refl) ∙ e
-
-  pub hex_ends : length digits ≤ i → every is_hex_digit (drop i digits) ≡ r → true ≡ r
-  hex_ends past e = sym (ap (every is_hex_digit) (drop_of_length-le digits {i = i} past)) ∙ e

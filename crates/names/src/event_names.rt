@@ -41,6 +41,7 @@ const NAMES: [[u8; WORD]; CODES as usize] = [
 ];
 
 // The name of an event's code, or no letter where it is no code.
+#[tactic(auto, unfolding(crate::specs::EventNames::event_name))]
 pub fn event(code: u16) -> [u8; WORD]
     ensures { result ≡ padded (event_name code) }
 {
@@ -65,6 +66,7 @@ pub fn event_code(name: &[u8]) -> u16
     UNKNOWN
 }
 
+#[tactic(auto, using(crate::specs::EventNamesLaws::event_word))]
 fn is_name(name: &[u8], code: u16) -> bool
     ensures { result ≡ same_word name.now (event_name code) }
 {
@@ -73,6 +75,7 @@ fn is_name(name: &[u8], code: u16) -> bool
 }
 
 // How many numbers go with an event, by its code.
+#[tactic(auto, unfolding(crate::specs::EventNames::event_numbers))]
 pub fn event_numbers(code: u16) -> u8
     ensures { result ≡ event_numbers code }
 {

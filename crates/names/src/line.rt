@@ -54,6 +54,7 @@ pub struct Line {
     pub bytes: [u8; EVENT],
 }
 
+#[tactic(auto, unfolding(crate::specs::Line::line_of, crate::specs::Line::named_line))]
 pub fn read_line(text: &[u8]) -> Line
     ensures { result ≡ line_of text.now }
 {
@@ -91,6 +92,7 @@ fn wrong(expected: Expected) -> Line
 }
 
 // The numbers that stand after an event's name.
+#[tactic(auto, unfolding(crate::specs::Line::numbered_line))]
 fn numbered(code: u16, text: &[u8]) -> Line
     ensures { result ≡ numbered_line code text.now }
 {
@@ -103,6 +105,7 @@ fn numbered(code: u16, text: &[u8]) -> Line
 }
 
 // How many words a text has that begins with one; where there is a third, three.
+#[tactic(auto, unfolding(crate::specs::Line::words_in))]
 fn words_in(text: &[u8]) -> u8
     ensures { result ≡ words_in text.now }
 {
@@ -120,6 +123,7 @@ fn words_in(text: &[u8]) -> u8
 }
 
 // A number that is not given is 0.
+#[tactic(auto, unfolding(crate::specs::Line::number_of))]
 fn number_of(word: &[u8]) -> Parsed
     ensures { result ≡ number_of word.now }
 {
@@ -129,6 +133,7 @@ fn number_of(word: &[u8]) -> Parsed
     terminal::parse(word)
 }
 
+#[tactic(auto, unfolding(crate::specs::Line::first_number))]
 fn first_number(code: u16, first: Parsed, second: Parsed) -> Line
     ensures { result ≡ first_number code first second }
 {
@@ -139,6 +144,7 @@ fn first_number(code: u16, first: Parsed, second: Parsed) -> Line
     }
 }
 
+#[tactic(auto, unfolding(crate::specs::Line::second_number))]
 fn second_number(code: u16, a: u32, second: Parsed) -> Line
     ensures { result ≡ second_number code a second }
 {
@@ -149,6 +155,7 @@ fn second_number(code: u16, a: u32, second: Parsed) -> Line
     }
 }
 
+#[tactic(auto, unfolding(crate::specs::Line::made_line))]
 fn made(code: u16, a: u32, b: u32) -> Line
     ensures { result ≡ made_line code a b }
 {
@@ -167,6 +174,7 @@ fn made(code: u16, a: u32, b: u32) -> Line
     }
 }
 
+#[tactic(auto, unfolding(crate::specs::Line::expected_after))]
 fn expected_after(code: u16) -> Expected
     ensures { result ≡ expected_after code }
 {
@@ -187,6 +195,7 @@ fn expected_after(code: u16) -> Expected
 }
 
 // The bytes as they are.
+#[tactic(auto, unfolding(crate::specs::Line::raw_line))]
 fn raw(text: &[u8]) -> Line
     ensures { result ≡ raw_line text.now }
 {
@@ -219,6 +228,7 @@ fn all_hex(digits: &[u8]) -> bool
     true
 }
 
+#[tactic(auto, unfolding(crate::specs::Line::raw_bytes))]
 fn raw_bytes(digits: &[u8]) -> [u8; EVENT]
     requires { length digits.now ≡ 24 }
     ensures { result ≡ raw_bytes digits.now }
@@ -240,6 +250,7 @@ fn raw_bytes(digits: &[u8]) -> [u8; EVENT]
 }
 
 // Byte k of the event: its digits stand at 2k and 2k + 1.
+#[tactic(auto, unfolding(crate::specs::Line::raw_byte))]
 fn raw_byte(digits: &[u8], k: usize) -> u8
     requires digits_len { length digits.now ≡ 24 }
     requires k_bound { k < 12 }

@@ -6,6 +6,7 @@ ghost use Rattle.names.specs.Text.{is_separator, ends, leading, first_word, afte
 pub const WORD: usize = 12;
 
 // The word at the start of a text, or nothing where a separator stands there.
+#[tactic(auto, unfolding(crate::specs::Text::first_word))]
 pub fn first_word(text: &[u8]) -> &[u8]
     ensures { result.now ≡ first_word text.now }
 {
@@ -14,6 +15,7 @@ pub fn first_word(text: &[u8]) -> &[u8]
 }
 
 // What stands after the word at the start of a text and the separators that end it.
+#[tactic(auto, unfolding(crate::specs::Text::after_word))]
 pub fn after_word(text: &[u8]) -> &[u8]
     ensures { result.now ≡ after_word text.now }
 {
@@ -21,6 +23,7 @@ pub fn after_word(text: &[u8]) -> &[u8]
     after_separators(&text[end..])
 }
 
+#[tactic(auto, unfolding(crate::specs::Text::after_separators))]
 pub fn after_separators(text: &[u8]) -> &[u8]
     ensures { result.now ≡ after_separators text.now }
 {
