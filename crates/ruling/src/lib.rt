@@ -21,6 +21,7 @@ use too_rules::{too_abort, too_expired, too_start};
 
 // What the rules say of an event in a state: its status, the state after it, and its records, the closing STATUS last. In a sound
 // state whose count is below its end they all have room.
+#[tactic(auto, unfolding(rules::specs::Ruling::ruling_of))]
 pub fn ruled(state: State, event: Event) -> Ruling
     ensures { result ≡ ruling_of state event }
 {
@@ -28,6 +29,7 @@ pub fn ruled(state: State, event: Event) -> Ruling
     with_status(said, state::one_more(state.count))
 }
 
+#[tactic(auto, unfolding(rules::specs::Rules::verdict_of))]
 fn heard(s: State, event: Event) -> Ruling
     ensures { result ≡ ruled_as s (verdict_of s event) }
 {
@@ -37,12 +39,14 @@ fn heard(s: State, event: Event) -> Ruling
     by_rule(s, event)
 }
 
+#[tactic(auto, unfolding(rules::specs::Rules::unheard))]
 fn unheard(s: State, event: Event) -> bool
     ensures { result ≡ unheard s event }
 {
     in_mode(s, Mode::Boot) & !event.is_started()
 }
 
+#[tactic(auto, unfolding(rules::specs::Rules::rule_of))]
 fn by_rule(s: State, event: Event) -> Ruling
     ensures { result ≡ ruled_as s (decide (rule_of s event)) }
 {
