@@ -6,7 +6,7 @@ use crate::told::tell;
 const MOST_TOLD: u64 = 20;
 
 // How many there were.
-#[derive(Drop)]
+#[derive(Clone, Copy)]
 pub struct Messages {
     pub count: u64,
 }
