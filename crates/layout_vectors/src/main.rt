@@ -7,20 +7,19 @@ ghost use Rattle.std.specs.Prelude.{◌≤◌, length};
 use blocks::Head;
 use events::{Event, FoundEvent};
 use kinds::Status;
-use libc::STDOUT_FILENO;
 use records::{Reading, Record};
 
-fn main() {
-    writing();
-    reading();
-    heads();
-    events();
-    strings_refused();
-    fields_refused();
-    records();
-    records_with_a_value();
-    records_with_a_number();
-    records_of_timers();
+fn main(rt: HostRuntime) {
+    writing(rt);
+    reading(rt);
+    heads(rt);
+    events(rt);
+    strings_refused(rt);
+    fields_refused(rt);
+    records(rt);
+    records_with_a_value(rt);
+    records_with_a_number(rt);
+    records_of_timers(rt);
 }
 
 // Blocks ---------------------------------------------------------------------------------------------------------------------
@@ -93,13 +92,14 @@ fn records_by_hand() -> [u8; 496] {
     records
 }
 
-fn writing() {
+fn writing(rt: HostRuntime) {
     let expected = two_used();
     let records = records_by_hand();
     let mut lent = [0xAAu8; 512];
     let answer = blocks::write_block(head(), &records, &mut lent);
-    yes_or_no(b"512 bytes lent, written", true, answer);
+    yes_or_no(rt, b"512 bytes lent, written", true, answer);
     yes_or_no(
+        rt,
         b"the block, as by hand",
         true,
         check::same(&lent, &expected),
@@ -107,37 +107,39 @@ fn writing() {
     let mut short = [0xAAu8; 511];
     let untouched = [0xAAu8; 511];
     let refused = blocks::write_block(head(), &records, &mut short);
-    yes_or_no(b"511 bytes lent, written", false, refused);
+    yes_or_no(rt, b"511 bytes lent, written", false, refused);
     yes_or_no(
+        rt,
         b"511 bytes lent, as before",
         true,
         check::same(&short, &untouched),
     );
-    byte(b"check, high byte", 0x12, lent[510]);
-    byte(b"check, low byte", 0x66, lent[511]);
+    byte(rt, b"check, high byte", 0x12, lent[510]);
+    byte(rt, b"check, low byte", 0x66, lent[511]);
 }
 
 // A block is read as intact, with its records' length, or not.
-fn reading() {
+fn reading(rt: HostRuntime) {
     let block = two_used();
-    read(b"used 2", &block, true, 16);
-    read_cut(&block);
+    read(rt, b"used 2", &block, true, 16);
+    read_cut(rt, &block);
     let mut flipped = two_used();
     flipped[300] = 0x10;
-    read(b"a bit flipped", &flipped, false, 0);
+    read(rt, b"a bit flipped", &flipped, false, 0);
     let none = by_hand(0, [0x4B, 0x15]);
-    read(b"used 0", &none, true, 0);
+    read(rt, b"used 0", &none, true, 0);
     let all = by_hand(62, [0xF9, 0x22]);
-    read(b"used 62", &all, true, 496);
+    read(rt, b"used 62", &all, true, 496);
     let more = by_hand(63, [0x5D, 0x8B]);
-    read(b"used 63", &more, true, 0);
+    read(rt, b"used 63", &more, true, 0);
 }
 
-fn read(name: &[u8], block: &[u8], intact: bool, length: u64) {
-    io::write_all(STDOUT_FILENO, name);
-    yes_or_no(b", intact", intact, blocks::intact(block));
-    io::write_all(STDOUT_FILENO, name);
+fn read(rt: HostRuntime, name: &[u8], block: &[u8], intact: bool, length: u64) {
+    say(rt, name);
+    yes_or_no(rt, b", intact", intact, blocks::intact(block));
+    say(rt, name);
     number(
+        rt,
         b", length of the records",
         length,
         blocks::records(block).len() as u64,
@@ -145,40 +147,52 @@ fn read(name: &[u8], block: &[u8], intact: bool, length: u64) {
 }
 
 // A block without its last byte is no block.
-fn read_cut(block: &[u8])
+fn read_cut(rt: HostRuntime, block: &[u8])
     requires { 511 ≤ length block.now }
 {
-    read(b"511 bytes", &block[..511], false, 0);
+    read(rt, b"511 bytes", &block[..511], false, 0);
 }
 
 // The head of a block, and of a string that is too short for one.
-fn heads() {
+fn heads(rt: HostRuntime) {
     let block = two_used();
     let whole = blocks::read_head(&block);
-    number(b"log number", 16909060, whole.number as u64);
-    number(b"block number", 5, whole.block as u64);
-    number(b"records used", 2, whole.used as u64);
-    number(b"count before", 7, whole.before as u64);
+    number(rt, b"log number", 16909060, whole.number as u64);
+    number(rt, b"block number", 5, whole.block as u64);
+    number(rt, b"records used", 2, whole.used as u64);
+    number(rt, b"count before", 7, whole.before as u64);
     let short = blocks::read_head(&[0xFF; 13]);
-    number(b"13 bytes, log number", 0, short.number as u64);
-    number(b"13 bytes, count before", 0, short.before as u64);
+    number(rt, b"13 bytes, log number", 0, short.number as u64);
+    number(rt, b"13 bytes, count before", 0, short.before as u64);
 }
 
 // Events ---------------------------------------------------------------------------------------------------------------------
 
 // Events, by their code.
-fn events() {
+fn events(rt: HostRuntime) {
     event(
+        rt,
         b"TOOSTART 7, 600",
         &[0, 17, 0, 0, 0, 0, 0, 7, 0, 0, 2, 0x58],
         17,
     );
-    event(b"STARTED", &[0, 1, 0, 0, 0, 0, 0, 0, 0, 0, 0, 0], 1);
-    event(b"CALSTATUS 1", &[0, 20, 0, 0, 0, 0, 0, 1, 0, 0, 0, 0], 20);
-    event(b"LPACOMPLETE", &[0, 23, 0, 0, 0, 0, 0, 0, 0, 0, 0, 0], 23);
+    event(rt, b"STARTED", &[0, 1, 0, 0, 0, 0, 0, 0, 0, 0, 0, 0], 1);
+    event(
+        rt,
+        b"CALSTATUS 1",
+        &[0, 20, 0, 0, 0, 0, 0, 1, 0, 0, 0, 0],
+        20,
+    );
+    event(
+        rt,
+        b"LPACOMPLETE",
+        &[0, 23, 0, 0, 0, 0, 0, 0, 0, 0, 0, 0],
+        23,
+    );
     let bytes = layout::event_bytes(Event::TooStart { run: 7, dwell: 600 });
     let expected = [0, 17, 0, 0, 0, 0, 0, 7, 0, 0, 2, 0x58];
     yes_or_no(
+        rt,
         b"TOOSTART 7, 600, bytes as by hand",
         true,
         check::same(&bytes, &expected),
@@ -186,21 +200,29 @@ fn events() {
 }
 
 // Strings that are no event, by their length, their code and the zero field.
-fn strings_refused() {
-    event(b"NOOP of 11 bytes", &[0, 10, 0, 0, 0, 0, 0, 0, 0, 0, 0], 0);
+fn strings_refused(rt: HostRuntime) {
     event(
+        rt,
+        b"NOOP of 11 bytes",
+        &[0, 10, 0, 0, 0, 0, 0, 0, 0, 0, 0],
+        0,
+    );
+    event(
+        rt,
         b"NOOP of 13 bytes",
         &[0, 10, 0, 0, 0, 0, 0, 0, 0, 0, 0, 0, 0],
         0,
     );
-    event(b"code 0", &[0, 0, 0, 0, 0, 0, 0, 0, 0, 0, 0, 0], 0);
-    event(b"code 24", &[0, 24, 0, 0, 0, 0, 0, 0, 0, 0, 0, 0], 0);
+    event(rt, b"code 0", &[0, 0, 0, 0, 0, 0, 0, 0, 0, 0, 0, 0], 0);
+    event(rt, b"code 24", &[0, 24, 0, 0, 0, 0, 0, 0, 0, 0, 0, 0], 0);
     event(
+        rt,
         b"NOOP little-endian",
         &[10, 0, 0, 0, 0, 0, 0, 0, 0, 0, 0, 0],
         0,
     );
     event(
+        rt,
         b"NOOP, zero field 1",
         &[0, 10, 0, 1, 0, 0, 0, 0, 0, 0, 0, 0],
         0,
@@ -208,15 +230,30 @@ fn strings_refused() {
 }
 
 // The same by a and b.
-fn fields_refused() {
-    event(b"NOOP, a 1", &[0, 10, 0, 0, 0, 0, 0, 1, 0, 0, 0, 0], 0);
-    event(b"LPASTART, b 1", &[0, 14, 0, 0, 0, 0, 0, 8, 0, 0, 0, 1], 0);
-    event(b"CALSTATUS 2", &[0, 20, 0, 0, 0, 0, 0, 2, 0, 0, 0, 0], 0);
-    event(b"LPASTATUS 2", &[0, 22, 0, 0, 0, 0, 0, 2, 0, 0, 0, 0], 0);
+fn fields_refused(rt: HostRuntime) {
+    event(rt, b"NOOP, a 1", &[0, 10, 0, 0, 0, 0, 0, 1, 0, 0, 0, 0], 0);
+    event(
+        rt,
+        b"LPASTART, b 1",
+        &[0, 14, 0, 0, 0, 0, 0, 8, 0, 0, 0, 1],
+        0,
+    );
+    event(
+        rt,
+        b"CALSTATUS 2",
+        &[0, 20, 0, 0, 0, 0, 0, 2, 0, 0, 0, 0],
+        0,
+    );
+    event(
+        rt,
+        b"LPASTATUS 2",
+        &[0, 22, 0, 0, 0, 0, 0, 2, 0, 0, 0, 0],
+        0,
+    );
 }
 
-fn event(name: &[u8], string: &[u8], code: u64) {
-    number(name, code, event_code(string));
+fn event(rt: HostRuntime, name: &[u8], string: &[u8], code: u64) {
+    number(rt, name, code, event_code(string));
 }
 
 // The code of a string's event, and 0 where it is none.
@@ -238,60 +275,71 @@ const WRONG_D: u8 = 2;
 const WRONG_V: u8 = 3;
 
 // Records that are right, and with what is wrong first: by the code, and d before v.
-fn records() {
-    record(b"code 0", &[0, 0, 0, 0, 0, 0, 0, 0], WRONG_CODE);
-    record(b"code 30", &[0, 30, 0, 0, 0, 0, 0, 0], WRONG_CODE);
-    record(b"OPMODE 6", &[0, 1, 0, 6, 0, 0, 0, 0], RIGHT);
-    record(b"OPMODE 7", &[0, 1, 0, 7, 0, 0, 0, 0], WRONG_D);
-    record(b"OPMODE 7, v 1", &[0, 1, 0, 7, 0, 0, 0, 1], WRONG_D);
-    record(b"OPMODE 6, v 1", &[0, 1, 0, 6, 0, 0, 0, 1], WRONG_V);
+fn records(rt: HostRuntime) {
+    record(rt, b"code 0", &[0, 0, 0, 0, 0, 0, 0, 0], WRONG_CODE);
+    record(rt, b"code 30", &[0, 30, 0, 0, 0, 0, 0, 0], WRONG_CODE);
+    record(rt, b"OPMODE 6", &[0, 1, 0, 6, 0, 0, 0, 0], RIGHT);
+    record(rt, b"OPMODE 7", &[0, 1, 0, 7, 0, 0, 0, 0], WRONG_D);
+    record(rt, b"OPMODE 7, v 1", &[0, 1, 0, 7, 0, 0, 0, 1], WRONG_D);
+    record(rt, b"OPMODE 6, v 1", &[0, 1, 0, 6, 0, 0, 0, 1], WRONG_V);
 }
 
 // By the value in v.
-fn records_with_a_value() {
-    record(b"POWERON, mask 0", &[0, 21, 0, 0, 0, 0, 0, 0], WRONG_V);
-    record(b"POWERON, mask 1", &[0, 21, 0, 0, 0, 0, 0, 1], RIGHT);
-    record(b"POWEROFF, mask 0", &[0, 22, 0, 0, 0, 0, 0, 0], WRONG_V);
-    record(b"WAIT 1", &[0, 27, 0, 0, 0, 0, 0, 1], RIGHT);
-    record(b"WAIT 2", &[0, 27, 0, 0, 0, 0, 0, 2], WRONG_V);
-    record(b"WAIT 5", &[0, 27, 0, 0, 0, 0, 0, 5], RIGHT);
+fn records_with_a_value(rt: HostRuntime) {
+    record(rt, b"POWERON, mask 0", &[0, 21, 0, 0, 0, 0, 0, 0], WRONG_V);
+    record(rt, b"POWERON, mask 1", &[0, 21, 0, 0, 0, 0, 0, 1], RIGHT);
+    record(rt, b"POWEROFF, mask 0", &[0, 22, 0, 0, 0, 0, 0, 0], WRONG_V);
+    record(rt, b"WAIT 1", &[0, 27, 0, 0, 0, 0, 0, 1], RIGHT);
+    record(rt, b"WAIT 2", &[0, 27, 0, 0, 0, 0, 0, 2], WRONG_V);
+    record(rt, b"WAIT 5", &[0, 27, 0, 0, 0, 0, 0, 5], RIGHT);
 }
 
 // By the number in d, and a record that is cut.
-fn records_with_a_number() {
-    record(b"ALERT 0x346", &[0, 28, 0x03, 0x46, 0, 0, 0, 0], RIGHT);
-    record(b"ALERT 0x347", &[0, 28, 0x03, 0x47, 0, 0, 0, 0], WRONG_D);
-    record(b"STATUS 11", &[0, 29, 0, 11, 0, 0, 0, 8], RIGHT);
-    record(b"STATUS 12", &[0, 29, 0, 12, 0, 0, 0, 8], WRONG_D);
-    record(b"7 bytes", &[0, 29, 0, 11, 0, 0, 0], WRONG_CODE);
+fn records_with_a_number(rt: HostRuntime) {
+    record(rt, b"ALERT 0x346", &[0, 28, 0x03, 0x46, 0, 0, 0, 0], RIGHT);
+    record(
+        rt,
+        b"ALERT 0x347",
+        &[0, 28, 0x03, 0x47, 0, 0, 0, 0],
+        WRONG_D,
+    );
+    record(rt, b"STATUS 11", &[0, 29, 0, 11, 0, 0, 0, 8], RIGHT);
+    record(rt, b"STATUS 12", &[0, 29, 0, 12, 0, 0, 0, 8], WRONG_D);
+    record(rt, b"7 bytes", &[0, 29, 0, 11, 0, 0, 0], WRONG_CODE);
 }
 
 // The dwell is 1 to 86400, and a timer that is stopped has none.
-fn records_of_timers() {
-    record(b"TOOTIMER 1, 0", &[0, 7, 0, 1, 0, 0, 0, 0], WRONG_V);
-    record(b"TOOTIMER 1, 1", &[0, 7, 0, 1, 0, 0, 0, 1], RIGHT);
-    record(b"TOOTIMER 1, 86400", &[0, 7, 0, 1, 0, 1, 0x51, 0x80], RIGHT);
+fn records_of_timers(rt: HostRuntime) {
+    record(rt, b"TOOTIMER 1, 0", &[0, 7, 0, 1, 0, 0, 0, 0], WRONG_V);
+    record(rt, b"TOOTIMER 1, 1", &[0, 7, 0, 1, 0, 0, 0, 1], RIGHT);
     record(
+        rt,
+        b"TOOTIMER 1, 86400",
+        &[0, 7, 0, 1, 0, 1, 0x51, 0x80],
+        RIGHT,
+    );
+    record(
+        rt,
         b"TOOTIMER 1, 86401",
         &[0, 7, 0, 1, 0, 1, 0x51, 0x81],
         WRONG_V,
     );
-    record(b"TOOTIMER 0", &[0, 7, 0, 0, 0, 0, 0, 0], RIGHT);
-    record(b"TOOTIMER 0, 1", &[0, 7, 0, 0, 0, 0, 0, 1], WRONG_V);
-    record(b"TOOTIMER 2", &[0, 7, 0, 2, 0, 0, 0, 0], WRONG_D);
+    record(rt, b"TOOTIMER 0", &[0, 7, 0, 0, 0, 0, 0, 0], RIGHT);
+    record(rt, b"TOOTIMER 0, 1", &[0, 7, 0, 0, 0, 0, 0, 1], WRONG_V);
+    record(rt, b"TOOTIMER 2", &[0, 7, 0, 2, 0, 0, 0, 0], WRONG_D);
 }
 
-fn record(name: &[u8], string: &[u8], expected: u8) {
+fn record(rt: HostRuntime, name: &[u8], string: &[u8], expected: u8) {
     let found = outcome(string, 0);
-    io::write_all(STDOUT_FILENO, name);
-    io::write_all(STDOUT_FILENO, b": ");
-    say_outcome(found);
+    say(rt, name);
+    say(rt, b": ");
+    say_outcome(rt, found);
     if found == expected {
-        io::write_all(STDOUT_FILENO, b", same\n");
+        say(rt, b", same\n");
     } else {
-        io::write_all(STDOUT_FILENO, b", DIFFERENT, expected ");
-        say_outcome(expected);
-        io::write_all(STDOUT_FILENO, b"\n");
+        say(rt, b", DIFFERENT, expected ");
+        say_outcome(rt, expected);
+        say(rt, b"\n");
     }
 }
 
@@ -304,47 +352,52 @@ fn outcome(string: &[u8], at: usize) -> u8 {
     }
 }
 
-fn say_outcome(outcome: u8) {
+fn say_outcome(rt: HostRuntime, outcome: u8) {
     if outcome == RIGHT {
-        io::write_all(STDOUT_FILENO, b"right");
+        say(rt, b"right");
     } else if outcome == WRONG_CODE {
-        io::write_all(STDOUT_FILENO, b"wrong code");
+        say(rt, b"wrong code");
     } else if outcome == WRONG_D {
-        io::write_all(STDOUT_FILENO, b"wrong d");
+        say(rt, b"wrong d");
     } else {
-        io::write_all(STDOUT_FILENO, b"wrong v");
+        say(rt, b"wrong v");
     }
 }
 
 // Lines ----------------------------------------------------------------------------------------------------------------------
 
-fn number(name: &[u8], expected: u64, found: u64) {
-    io::write_all(STDOUT_FILENO, name);
-    io::write_all(STDOUT_FILENO, b": ");
-    io::print_decimal(STDOUT_FILENO, found);
+fn number(rt: HostRuntime, name: &[u8], expected: u64, found: u64) {
+    say(rt, name);
+    say(rt, b": ");
+    let _ = print!(rt; "{found}");
     if found == expected {
-        io::write_all(STDOUT_FILENO, b", same\n");
+        say(rt, b", same\n");
     } else {
-        io::write_all(STDOUT_FILENO, b", DIFFERENT, expected ");
-        io::print_decimal(STDOUT_FILENO, expected);
-        io::write_all(STDOUT_FILENO, b"\n");
+        say(rt, b", DIFFERENT, expected ");
+        let _ = print!(rt; "{expected}");
+        say(rt, b"\n");
     }
 }
 
-fn byte(name: &[u8], expected: u8, found: u8) {
-    number(name, expected as u64, found as u64);
+fn byte(rt: HostRuntime, name: &[u8], expected: u8, found: u8) {
+    number(rt, name, expected as u64, found as u64);
 }
 
-fn yes_or_no(name: &[u8], expected: bool, found: bool) {
-    io::write_all(STDOUT_FILENO, name);
+fn yes_or_no(rt: HostRuntime, name: &[u8], expected: bool, found: bool) {
+    say(rt, name);
     if found {
-        io::write_all(STDOUT_FILENO, b": yes, ");
+        say(rt, b": yes, ");
     } else {
-        io::write_all(STDOUT_FILENO, b": no, ");
+        say(rt, b": no, ");
     }
     if found == expected {
-        io::write_all(STDOUT_FILENO, b"same\n");
+        say(rt, b"same\n");
     } else {
-        io::write_all(STDOUT_FILENO, b"DIFFERENT\n");
+        say(rt, b"DIFFERENT\n");
     }
+}
+
+// To standard output, which the gate compares.
+fn say(rt: HostRuntime, s: &[u8]) {
+    let _ = rt.stdout().write_all(s);
 }

@@ -6,21 +6,20 @@
 use blocks::Head;
 use events::Event;
 use kinds::{LpaMode, Mode, Task, TooState};
-use libc::STDOUT_FILENO;
 use manager::{Answered, Manager};
 use state::State;
 use trial_blocks::{head, put, sealed};
 
-fn main() {
-    filling();
-    several();
-    flushing();
-    the_end_of_the_count();
-    orders();
-    events_refused();
-    logs_refused();
-    flushes_refused();
-    a_calibration_still_stopping();
+fn main(rt: HostRuntime) {
+    filling(rt);
+    several(rt);
+    flushing(rt);
+    the_end_of_the_count(rt);
+    orders(rt);
+    events_refused(rt);
+    logs_refused(rt);
+    flushes_refused(rt);
+    a_calibration_still_stopping(rt);
 }
 
 // Blocks by hand -------------------------------------------------------------------------------------------------------------
@@ -69,37 +68,43 @@ fn after(m: Manager, event: Event) -> Manager {
 }
 
 // A block filled to its last record, and one event more.
-fn filling() {
-    let m = step(b"STARTED", manager::fresh(7), Event::Started, started(2));
-    step(b"MAINFEEDON", m, Event::MainFeedOn, started(2));
+fn filling(rt: HostRuntime) {
+    let m = step(
+        rt,
+        b"STARTED",
+        manager::fresh(7),
+        Event::Started,
+        started(2),
+    );
+    step(rt, b"MAINFEEDON", m, Event::MainFeedOn, started(2));
     let b = quiet(62, 60);
-    let m = step(b"61 used, NOOP", quiescent(56), Event::NoOp, b);
-    let m = step(b"62 used, NOOP", m, Event::NoOp, b);
-    step(b"1 used, NOOP", m, Event::NoOp, b);
+    let m = step(rt, b"61 used, NOOP", quiescent(56), Event::NoOp, b);
+    let m = step(rt, b"62 used, NOOP", m, Event::NoOp, b);
+    step(rt, b"1 used, NOOP", m, Event::NoOp, b);
 }
 
 // TOOSTART has 6 records: at 56 used they are the last, at 57 and at 58 they begin the next block.
-fn several() {
+fn several(rt: HostRuntime) {
     let too = Event::TooStart { run: 7, dwell: 600 };
-    step(b"56 used, TOOSTART", quiescent(51), too, quiet(56, 54));
-    step(b"57 used, TOOSTART", quiescent(52), too, quiet(57, 55));
-    step(b"58 used, TOOSTART", quiescent(53), too, quiet(58, 56));
+    step(rt, b"56 used, TOOSTART", quiescent(51), too, quiet(56, 54));
+    step(rt, b"57 used, TOOSTART", quiescent(52), too, quiet(57, 55));
+    step(rt, b"58 used, TOOSTART", quiescent(53), too, quiet(58, 56));
 }
 
-fn flushing() {
+fn flushing(rt: HostRuntime) {
     let first = sealed(started(2));
-    let m = flush(b"flush of a fresh log", manager::fresh(7), first);
-    let m = flush(b"flush of 2 records", after(m, Event::Started), first);
-    let m = flush(b"flush again", m, first);
+    let m = flush(rt, b"flush of a fresh log", manager::fresh(7), first);
+    let m = flush(rt, b"flush of 2 records", after(m, Event::Started), first);
+    let m = flush(rt, b"flush again", m, first);
     let second = sealed(fed(head(1, 3, 1), 0));
-    let m = step(b"MAINFEEDON after it", m, Event::MainFeedOn, second);
-    let m = flush(b"flush of 3 records", m, second);
-    step(b"NOOP after it", m, Event::NoOp, second);
-    flush(b"flush of 62 records", quiescent(57), quiet(62, 60));
+    let m = step(rt, b"MAINFEEDON after it", m, Event::MainFeedOn, second);
+    let m = flush(rt, b"flush of 3 records", m, second);
+    step(rt, b"NOOP after it", m, Event::NoOp, second);
+    flush(rt, b"flush of 62 records", quiescent(57), quiet(62, 60));
 }
 
 // The last event has the number 4294967295; it is refused by the rules (NOTRUN) and logged. Past it only a flush goes.
-fn the_end_of_the_count() {
+fn the_end_of_the_count(rt: HostRuntime) {
     let state = State::rebooted(4294967294);
     let m = made(state, 0, 0, 4294967294, [0; 496]);
     let mut b = head(0, 1, 0xFE);
@@ -107,11 +112,11 @@ fn the_end_of_the_count() {
     b[11] = 0xFF;
     b[12] = 0xFF;
     let b = sealed(put(b, 0, [0, 29, 0, 3, 0xFF, 0xFF, 0xFF, 0xFF]));
-    let m = step(b"the last event, NOOP in BOOT", m, Event::NoOp, b);
-    let m = step(b"FULL, NOOP", m, Event::NoOp, b);
-    let m = flush(b"FULL, flush", m, b);
-    let m = flush(b"FULL, flush again", m, b);
-    step(b"FULL, NOOP after the flush", m, Event::NoOp, b);
+    let m = step(rt, b"the last event, NOOP in BOOT", m, Event::NoOp, b);
+    let m = step(rt, b"FULL, NOOP", m, Event::NoOp, b);
+    let m = flush(rt, b"FULL, flush", m, b);
+    let m = flush(rt, b"FULL, flush again", m, b);
+    step(rt, b"FULL, NOOP after the flush", m, Event::NoOp, b);
 }
 
 // Refusals -------------------------------------------------------------------------------------------------------------------
@@ -131,7 +136,7 @@ fn made(state: State, block: u32, used: u16, before: u32, records: [u8; 496]) ->
 }
 
 // The order: each line mends what the line before it was refused for.
-fn orders() {
+fn orders(rt: HostRuntime) {
     let mut records = [0u8; 496];
     records[1] = 29;
     let full = State::rebooted(4294967295);
@@ -140,156 +145,174 @@ fn orders() {
     let right = made(full, 0, 1, 4294967294, records);
     let bad = [0, 24, 0, 0, 0, 0, 0, 0, 0, 0, 0, 0];
     let noop = layout::event_bytes(Event::NoOp);
-    step_short(b"511 lent, bad event, unsound, full", wrong, &bad);
-    step_whole(b"512 lent, bad event, unsound, full", wrong, &bad);
-    step_whole(b"512 lent, NOOP, unsound, full", wrong, &noop);
-    step_whole(b"512 lent, NOOP, sound, full", right, &noop);
-    step_short(b"511 lent, NOOP, sound, full", right, &noop);
-    step_whole(b"512 lent, bad event, sound, full", right, &bad);
+    step_short(rt, b"511 lent, bad event, unsound, full", wrong, &bad);
+    step_whole(rt, b"512 lent, bad event, unsound, full", wrong, &bad);
+    step_whole(rt, b"512 lent, NOOP, unsound, full", wrong, &noop);
+    step_whole(rt, b"512 lent, NOOP, sound, full", right, &noop);
+    step_short(rt, b"511 lent, NOOP, sound, full", right, &noop);
+    step_whole(rt, b"512 lent, bad event, sound, full", right, &bad);
 }
 
-fn events_refused() {
+fn events_refused(rt: HostRuntime) {
     let m = manager::fresh(7);
     let noop = layout::event_bytes(Event::NoOp);
-    step_short(b"511 lent, NOOP, fresh", m, &noop);
-    step_longer(b"513 lent, NOOP, fresh", m, &noop);
-    step_whole(b"no bytes", m, b"");
-    step_whole(b"NOOP of 11 bytes", m, &[0, 10, 0, 0, 0, 0, 0, 0, 0, 0, 0]);
-    step_whole(b"code 0", m, &[0, 0, 0, 0, 0, 0, 0, 0, 0, 0, 0, 0]);
-    step_whole(b"zero field 1", m, &[0, 10, 0, 1, 0, 0, 0, 0, 0, 0, 0, 0]);
-    step_whole(b"NOOP, b 1", m, &[0, 10, 0, 0, 0, 0, 0, 0, 0, 0, 0, 1]);
-    step_whole(b"CALSTATUS 2", m, &[0, 20, 0, 0, 0, 0, 0, 2, 0, 0, 0, 0]);
+    step_short(rt, b"511 lent, NOOP, fresh", m, &noop);
+    step_longer(rt, b"513 lent, NOOP, fresh", m, &noop);
+    step_whole(rt, b"no bytes", m, b"");
+    step_whole(
+        rt,
+        b"NOOP of 11 bytes",
+        m,
+        &[0, 10, 0, 0, 0, 0, 0, 0, 0, 0, 0],
+    );
+    step_whole(rt, b"code 0", m, &[0, 0, 0, 0, 0, 0, 0, 0, 0, 0, 0, 0]);
+    step_whole(
+        rt,
+        b"zero field 1",
+        m,
+        &[0, 10, 0, 1, 0, 0, 0, 0, 0, 0, 0, 0],
+    );
+    step_whole(rt, b"NOOP, b 1", m, &[0, 10, 0, 0, 0, 0, 0, 0, 0, 0, 0, 1]);
+    step_whole(
+        rt,
+        b"CALSTATUS 2",
+        m,
+        &[0, 20, 0, 0, 0, 0, 0, 2, 0, 0, 0, 0],
+    );
 }
 
 // Logs that cannot have come about, at count 1, and first one that can.
-fn logs_refused() {
+fn logs_refused(rt: HostRuntime) {
     let mut records = [0u8; 496];
     records[1] = 29;
     records[7] = 1;
-    log(b"a sound log", 0, 1, 0, records);
-    log(b"used 63", 0, 63, 0, records);
-    log(b"block number over count before", 1, 1, 0, records);
-    log(b"count before over count", 0, 1, 2, records);
-    log(b"used 0, counts unequal", 0, 0, 0, [0; 496]);
-    log(b"used 1, counts equal", 0, 1, 1, records);
+    log(rt, b"a sound log", 0, 1, 0, records);
+    log(rt, b"used 63", 0, 63, 0, records);
+    log(rt, b"block number over count before", 1, 1, 0, records);
+    log(rt, b"count before over count", 0, 1, 2, records);
+    log(rt, b"used 0, counts unequal", 0, 0, 0, [0; 496]);
+    log(rt, b"used 1, counts equal", 0, 1, 1, records);
     let mut next = records;
     next[8] = 1;
-    log(b"the first byte beyond used", 0, 1, 0, next);
+    log(rt, b"the first byte beyond used", 0, 1, 0, next);
     let mut last = records;
     last[495] = 1;
-    log(b"the last byte beyond used", 0, 1, 0, last);
+    log(rt, b"the last byte beyond used", 0, 1, 0, last);
 }
 
-fn log(name: &[u8], block: u32, used: u16, before: u32, records: [u8; 496]) {
+fn log(rt: HostRuntime, name: &[u8], block: u32, used: u16, before: u32, records: [u8; 496]) {
     let noop = layout::event_bytes(Event::NoOp);
     step_whole(
+        rt,
         name,
         made(State::rebooted(1), block, used, before, records),
         &noop,
     );
 }
 
-fn flushes_refused() {
+fn flushes_refused(rt: HostRuntime) {
     let unsound = State::fresh().with_mode(Mode::Physics);
     let wrong = made(unsound, 0, 0, 0, [0; 496]);
-    flush_short(b"flush, 511 lent, unsound, empty", wrong);
-    flush(b"flush, 512 lent, unsound, empty", wrong, [0; 512]);
+    flush_short(rt, b"flush, 511 lent, unsound, empty", wrong);
+    flush(rt, b"flush, 512 lent, unsound, empty", wrong, [0; 512]);
     flush(
+        rt,
         b"flush, 512 lent, sound, empty",
         manager::fresh(7),
         [0; 512],
     );
     flush_short(
+        rt,
         b"flush, 511 lent, 2 records",
         after(manager::fresh(7), Event::Started),
     );
 }
 
 // Physics is not started beside a calibration that stops; both tasks busy is a state that cannot have come about.
-fn a_calibration_still_stopping() {
+fn a_calibration_still_stopping(rt: HostRuntime) {
     let lci = State::rebooted(1)
         .with_mode(Mode::Quiescent)
         .with_lci(Task::Stopping);
     let one = made(lci, 0, 0, 1, [0; 496]);
     let both = made(lci.with_lpa(Task::Stopping), 0, 0, 1, [0; 496]);
     let start = layout::event_bytes(Event::LpaStart { run: 8 });
-    step_whole(b"LCI STOPPING, LPASTART", one, &start);
-    step_whole(b"LCI and LPA STOPPING, LPASTART", both, &start);
-    flush(b"LCI and LPA STOPPING, flush", both, [0; 512]);
+    step_whole(rt, b"LCI STOPPING, LPASTART", one, &start);
+    step_whole(rt, b"LCI and LPA STOPPING, LPASTART", both, &start);
+    flush(rt, b"LCI and LPA STOPPING, flush", both, [0; 512]);
 }
 
 // Operations -----------------------------------------------------------------------------------------------------------------
 
-fn step(name: &[u8], m: Manager, event: Event, expected: [u8; 512]) -> Manager {
+fn step(rt: HostRuntime, name: &[u8], m: Manager, event: Event, expected: [u8; 512]) -> Manager {
     let mut lent = [0xAAu8; 512];
     let bytes = layout::event_bytes(event);
     let done = manager::step(m, &bytes, &mut lent);
-    show(name, m, done, &lent);
-    show_block(done.written, &lent, &expected);
+    show(rt, name, m, done, &lent);
+    show_block(rt, done.written, &lent, &expected);
     done.manager
 }
 
-fn flush(name: &[u8], m: Manager, expected: [u8; 512]) -> Manager {
+fn flush(rt: HostRuntime, name: &[u8], m: Manager, expected: [u8; 512]) -> Manager {
     let mut lent = [0xAAu8; 512];
     let done = manager::flush(m, &mut lent);
-    show(name, m, done, &lent);
-    show_block(done.written, &lent, &expected);
+    show(rt, name, m, done, &lent);
+    show_block(rt, done.written, &lent, &expected);
     done.manager
 }
 
-fn step_whole(name: &[u8], m: Manager, event: &[u8]) {
+fn step_whole(rt: HostRuntime, name: &[u8], m: Manager, event: &[u8]) {
     let mut lent = [0xAAu8; 512];
     let done = manager::step(m, event, &mut lent);
-    show(name, m, done, &lent);
+    show(rt, name, m, done, &lent);
 }
 
-fn step_short(name: &[u8], m: Manager, event: &[u8]) {
+fn step_short(rt: HostRuntime, name: &[u8], m: Manager, event: &[u8]) {
     let mut lent = [0xAAu8; 511];
     let done = manager::step(m, event, &mut lent);
-    show(name, m, done, &lent);
+    show(rt, name, m, done, &lent);
 }
 
-fn step_longer(name: &[u8], m: Manager, event: &[u8]) {
+fn step_longer(rt: HostRuntime, name: &[u8], m: Manager, event: &[u8]) {
     let mut lent = [0xAAu8; 513];
     let done = manager::step(m, event, &mut lent);
-    show(name, m, done, &lent);
+    show(rt, name, m, done, &lent);
 }
 
-fn flush_short(name: &[u8], m: Manager) {
+fn flush_short(rt: HostRuntime, name: &[u8], m: Manager) {
     let mut lent = [0xAAu8; 511];
     let done = manager::flush(m, &mut lent);
-    show(name, m, done, &lent);
+    show(rt, name, m, done, &lent);
 }
 
 // Lines ----------------------------------------------------------------------------------------------------------------------
 
-fn show(name: &[u8], before: Manager, done: Answered, lent: &[u8]) {
+fn show(rt: HostRuntime, name: &[u8], before: Manager, done: Answered, lent: &[u8]) {
     let answer = done.answer;
     let m = done.manager;
     let head = m.head;
     let s = m.state;
-    io::write_all(STDOUT_FILENO, name);
-    number(b": answer ", answer.number() as u64);
-    yes_or_no(b"; written ", done.written);
-    number(b"; block ", head.block as u64);
-    number(b", used ", head.used as u64);
-    number(b", count before ", head.before as u64);
-    number(b", count ", s.count as u64);
-    yes_or_no(b"; lent bytes as before ", untouched(lent));
-    yes_or_no(b", manager as before ", same_manager(before, m));
-    io::write_all(STDOUT_FILENO, b"\n");
+    say(rt, name);
+    number(rt, b": answer ", answer.number() as u64);
+    yes_or_no(rt, b"; written ", done.written);
+    number(rt, b"; block ", head.block as u64);
+    number(rt, b", used ", head.used as u64);
+    number(rt, b", count before ", head.before as u64);
+    number(rt, b", count ", s.count as u64);
+    yes_or_no(rt, b"; lent bytes as before ", untouched(lent));
+    yes_or_no(rt, b", manager as before ", same_manager(before, m));
+    say(rt, b"\n");
 }
 
-fn show_block(written: bool, lent: &[u8], expected: &[u8]) {
+fn show_block(rt: HostRuntime, written: bool, lent: &[u8], expected: &[u8]) {
     if written {
         let head = blocks::read_head(lent);
-        yes_or_no(b"  the block: intact ", blocks::intact(lent));
-        number(b"; log ", head.number as u64);
-        number(b", block ", head.block as u64);
-        number(b", used ", head.used as u64);
-        number(b", count before ", head.before as u64);
-        yes_or_no(b"; as by hand ", check::same(lent, expected));
-        io::write_all(STDOUT_FILENO, b"\n");
+        yes_or_no(rt, b"  the block: intact ", blocks::intact(lent));
+        number(rt, b"; log ", head.number as u64);
+        number(rt, b", block ", head.block as u64);
+        number(rt, b", used ", head.used as u64);
+        number(rt, b", count before ", head.before as u64);
+        yes_or_no(rt, b"; as by hand ", check::same(lent, expected));
+        say(rt, b"\n");
     }
 }
 
@@ -358,16 +381,21 @@ fn purpose_and_target_are(s: State, lpa_mode: LpaMode, too: TooState) -> bool {
     found.is(lpa_mode) & found_too.is(too)
 }
 
-fn number(name: &[u8], n: u64) {
-    io::write_all(STDOUT_FILENO, name);
-    io::print_decimal(STDOUT_FILENO, n);
+fn number(rt: HostRuntime, name: &[u8], n: u64) {
+    say(rt, name);
+    let _ = print!(rt; "{n}");
 }
 
-fn yes_or_no(name: &[u8], yes: bool) {
-    io::write_all(STDOUT_FILENO, name);
+fn yes_or_no(rt: HostRuntime, name: &[u8], yes: bool) {
+    say(rt, name);
     if yes {
-        io::write_all(STDOUT_FILENO, b"yes");
+        say(rt, b"yes");
     } else {
-        io::write_all(STDOUT_FILENO, b"no");
+        say(rt, b"no");
     }
+}
+
+// To standard output, which the gate compares.
+fn say(rt: HostRuntime, s: &[u8]) {
+    let _ = rt.stdout().write_all(s);
 }

@@ -3,19 +3,18 @@
 #![tactic(auto)]
 
 use kinds::{Mode, Task};
-use libc::STDOUT_FILENO;
 use reader::{Read, Reader};
 use state::State;
 use trial_blocks::{head, put, sealed};
 
-fn main() {
-    the_table();
-    readers_not_sound();
-    heads_that_are_wrong();
-    records_that_are_wrong();
-    events_that_are_wrong();
-    the_end_of_the_count();
-    both_tasks_busy();
+fn main(rt: HostRuntime) {
+    the_table(rt);
+    readers_not_sound(rt);
+    heads_that_are_wrong(rt);
+    records_that_are_wrong(rt);
+    events_that_are_wrong(rt);
+    the_end_of_the_count(rt);
+    both_tasks_busy(rt);
 }
 
 // Records, as they stand in a block.
@@ -87,37 +86,37 @@ fn last_spring() -> [u8; 512] {
 // The table ------------------------------------------------------------------------------------------------------------------
 
 // Blocks that come damaged, from elsewhere, out of order and twice, to one reader.
-fn the_table() {
-    let r = show(b"empty string", reader::read(reader::fresh(7), b""));
-    let r = read_cut(b"block 0 without its last byte", r, block_0());
-    let r = read_longer(b"block 0 with a byte more", r, block_0());
+fn the_table(rt: HostRuntime) {
+    let r = show(rt, b"empty string", reader::read(reader::fresh(7), b""));
+    let r = read_cut(rt, b"block 0 without its last byte", r, block_0());
+    let r = read_longer(rt, b"block 0 with a byte more", r, block_0());
     let mut flipped = block_0();
     flipped[50] = 0x10;
-    let r = read(b"block 0 with a bit flipped", r, flipped);
+    let r = read(rt, b"block 0 with a bit flipped", r, flipped);
     let mut other = block_0();
     other[3] = 8;
-    let r = read(b"block 0 of log 8", r, sealed(other));
-    let r = read(b"block 1, too early", r, block_1());
-    let r = read(b"block 4294967295", r, the_last());
-    let r = read(b"block 0", r, block_0());
-    let r = read(b"block 0 again", r, block_0());
-    let r = read(b"last spring's block", r, last_spring());
-    let r = read(b"block 1", r, block_1());
-    read(b"block 1 again", r, block_1());
+    let r = read(rt, b"block 0 of log 8", r, sealed(other));
+    let r = read(rt, b"block 1, too early", r, block_1());
+    let r = read(rt, b"block 4294967295", r, the_last());
+    let r = read(rt, b"block 0", r, block_0());
+    let r = read(rt, b"block 0 again", r, block_0());
+    let r = read(rt, b"last spring's block", r, last_spring());
+    let r = read(rt, b"block 1", r, block_1());
+    read(rt, b"block 1 again", r, block_1());
 }
 
-fn read(name: &[u8], r: Reader, block: [u8; 512]) -> Reader {
-    show(name, reader::read(r, &block))
+fn read(rt: HostRuntime, name: &[u8], r: Reader, block: [u8; 512]) -> Reader {
+    show(rt, name, reader::read(r, &block))
 }
 
-fn read_cut(name: &[u8], r: Reader, block: [u8; 512]) -> Reader {
+fn read_cut(rt: HostRuntime, name: &[u8], r: Reader, block: [u8; 512]) -> Reader {
     let cut = shorter(block);
-    show(name, reader::read(r, &cut))
+    show(rt, name, reader::read(r, &cut))
 }
 
-fn read_longer(name: &[u8], r: Reader, block: [u8; 512]) -> Reader {
+fn read_longer(rt: HostRuntime, name: &[u8], r: Reader, block: [u8; 512]) -> Reader {
     let long = longer(block);
-    show(name, reader::read(r, &long))
+    show(rt, name, reader::read(r, &long))
 }
 
 // A block with the number past which there is none.
@@ -146,7 +145,7 @@ fn longer(block: [u8; 512]) -> [u8; 513] {
 }
 
 // Readers that cannot have come about: more blocks than events, more than were heard of, and a state that is not sound.
-fn readers_not_sound() {
+fn readers_not_sound(rt: HostRuntime) {
     let state = State::fresh();
     let early = Reader {
         number: 7,
@@ -154,7 +153,7 @@ fn readers_not_sound() {
         next: 1,
         heard: 1,
     };
-    read(b"a reader with next 1 at count 0", early, block_0());
+    read(rt, b"a reader with next 1 at count 0", early, block_0());
     let counted = State::rebooted(1);
     let deaf = Reader {
         number: 7,
@@ -162,7 +161,7 @@ fn readers_not_sound() {
         next: 1,
         heard: 0,
     };
-    read(b"a reader with heard below next", deaf, block_0());
+    read(rt, b"a reader with heard below next", deaf, block_0());
     let idle = State::fresh().with_mode(Mode::Physics);
     let wrong = Reader {
         number: 7,
@@ -170,31 +169,33 @@ fn readers_not_sound() {
         next: 0,
         heard: 0,
     };
-    read(b"a reader in PHYSICS with LPA IDLE", wrong, block_0());
+    read(rt, b"a reader in PHYSICS with LPA IDLE", wrong, block_0());
 }
 
 // Content --------------------------------------------------------------------------------------------------------------------
 
-fn fresh_reads(name: &[u8], block: [u8; 512]) {
-    read(name, reader::fresh(7), sealed(block));
+fn fresh_reads(rt: HostRuntime, name: &[u8], block: [u8; 512]) {
+    read(rt, name, reader::fresh(7), sealed(block));
 }
 
-fn heads_that_are_wrong() {
-    fresh_reads(b"used 0", head(0, 0, 0));
+fn heads_that_are_wrong(rt: HostRuntime) {
+    fresh_reads(rt, b"used 0", head(0, 0, 0));
     let one = put(head(0, 63, 0), 0, STATUS_1);
-    fresh_reads(b"used 63", one);
+    fresh_reads(rt, b"used 63", one);
     let counted = put(head(0, 1, 1), 0, STATUS_2);
-    fresh_reads(b"count before 1", counted);
+    fresh_reads(rt, b"count before 1", counted);
     let more = put(put(head(0, 1, 0), 0, STATUS_1), 61, STATUS_2);
-    fresh_reads(b"bytes beyond used", more);
+    fresh_reads(rt, b"bytes beyond used", more);
 }
 
-fn records_that_are_wrong() {
+fn records_that_are_wrong(rt: HostRuntime) {
     fresh_reads(
+        rt,
         b"code 0",
         put(put(head(0, 2, 0), 0, [0, 0, 0, 0, 0, 0, 0, 0]), 1, STATUS_1),
     );
     fresh_reads(
+        rt,
         b"code 30",
         put(
             put(head(0, 2, 0), 0, [0, 30, 0, 0, 0, 0, 0, 0]),
@@ -203,35 +204,41 @@ fn records_that_are_wrong() {
         ),
     );
     fresh_reads(
+        rt,
         b"OPMODE 7",
         put(put(head(0, 2, 0), 0, [0, 1, 0, 7, 0, 0, 0, 0]), 1, STATUS_1),
     );
     fresh_reads(
+        rt,
         b"OPMODE 1, v 1",
         put(put(head(0, 2, 0), 0, [0, 1, 0, 1, 0, 0, 0, 1]), 1, STATUS_1),
     );
     fresh_reads(
+        rt,
         b"OPMODE 1",
         put(put(head(0, 2, 0), 0, STARTED), 1, STATUS_1),
     );
 }
 
 // Nine records and a STATUS are an event, ten and a STATUS are none.
-fn events_that_are_wrong() {
+fn events_that_are_wrong(rt: HostRuntime) {
     let nine = put(nine_aborts(10), 9, STATUS_1);
-    fresh_reads(b"10 records", nine);
+    fresh_reads(rt, b"10 records", nine);
     let ten = put(put(nine_aborts(11), 9, CAL_ABORT), 10, STATUS_1);
-    fresh_reads(b"11 records", ten);
-    fresh_reads(b"STATUS 2 first", put(head(0, 1, 0), 0, STATUS_2));
+    fresh_reads(rt, b"11 records", ten);
+    fresh_reads(rt, b"STATUS 2 first", put(head(0, 1, 0), 0, STATUS_2));
     fresh_reads(
+        rt,
         b"STATUS 1 twice",
         put(put(head(0, 2, 0), 0, STATUS_1), 1, STATUS_1),
     );
     fresh_reads(
+        rt,
         b"no STATUS last",
         put(put(head(0, 2, 0), 0, STATUS_1), 1, STARTED),
     );
     fresh_reads(
+        rt,
         b"PHYSICS with LPA IDLE",
         put(put(head(0, 2, 0), 0, PHYSICS), 1, STATUS_1),
     );
@@ -251,22 +258,23 @@ fn nine_aborts(used: u8) -> [u8; 512] {
 }
 
 // The last event has the number 4294967295. Past it nothing is closed, and no timer is counted beyond it.
-fn the_end_of_the_count() {
+fn the_end_of_the_count(rt: HostRuntime) {
     let last = [0, 29, 0, 0, 0xFF, 0xFF, 0xFF, 0xFF];
     let zero = [0, 29, 0, 0, 0, 0, 0, 0];
     let timer = [0, 7, 0, 1, 0, 0, 2, 0x58];
     let one = sealed(put(late(1, 0xFE), 0, last));
-    read(b"the last event", late_reader(4294967294), one);
+    read(rt, b"the last event", late_reader(4294967294), one);
     let b = put(late(3, 0xFE), 0, last);
     let b = put(b, 1, timer);
     let more = sealed(put(b, 2, zero));
     read(
+        rt,
         b"a timer past the last event",
         late_reader(4294967294),
         more,
     );
     let past = sealed(put(late(1, 0xFF), 0, zero));
-    read(b"an event past the last", late_reader(4294967295), past);
+    read(rt, b"an event past the last", late_reader(4294967295), past);
 }
 
 fn late(used: u8, low: u8) -> [u8; 512] {
@@ -289,10 +297,11 @@ fn late_reader(count: u32) -> Reader {
 
 // A calibration that a hold stopped and that has not ended. A log of the base may have physics started then, which is wrong here. Only
 // the state after the STATUS is looked at, not those between two records.
-fn both_tasks_busy() {
+fn both_tasks_busy(rt: HostRuntime) {
     let b = put(put(head(1, 4, 5), 0, LPA_START_8), 1, LPA_RUNNING);
     let b = sealed(put(put(b, 2, PHYSICS), 3, STATUS_6));
     read(
+        rt,
         b"physics started while LCI is STOPPING",
         stopping_reader(Task::Idle),
         b,
@@ -300,11 +309,13 @@ fn both_tasks_busy() {
     let b = put(put(head(1, 5, 5), 0, LPA_START_8), 1, LPA_RUNNING);
     let b = sealed(put(put(put(b, 2, LCI_IDLE), 3, PHYSICS), 4, STATUS_6));
     read(
+        rt,
         b"the same, with LCI IDLE before the STATUS",
         stopping_reader(Task::Idle),
         b,
     );
     read(
+        rt,
         b"a reader with both tasks STOPPING",
         stopping_reader(Task::Stopping),
         b,
@@ -326,7 +337,7 @@ fn stopping_reader(lpa: Task) -> Reader {
 
 // Lines ----------------------------------------------------------------------------------------------------------------------
 
-fn show(name: &[u8], after: Read) -> Reader {
+fn show(rt: HostRuntime, name: &[u8], after: Read) -> Reader {
     let answer = after.answer;
     let r = after.reader;
     let s = r.state;
@@ -334,33 +345,38 @@ fn show(name: &[u8], after: Read) -> Reader {
     let lci = s.lci;
     let lpa = s.lpa;
     let too = s.too;
-    io::write_all(STDOUT_FILENO, name);
-    number(b": answer ", answer.number() as u64);
-    number(b"; next ", r.next as u64);
-    number(b", heard ", r.heard as u64);
-    yes_or_no(b", behind ", reader::behind(r));
-    number(b"; mode ", mode.number() as u64);
-    number(b", lci ", lci.number() as u64);
-    number(b", lpa ", lpa.number() as u64);
-    yes_or_no(b", saa ", s.saa);
-    yes_or_no(b", lpa awaited ", s.lpa_awaited);
-    number(b", too ", too.number() as u64);
-    number(b", armed ", s.armed as u64);
-    number(b", count ", s.count as u64);
-    io::write_all(STDOUT_FILENO, b"\n");
+    say(rt, name);
+    number(rt, b": answer ", answer.number() as u64);
+    number(rt, b"; next ", r.next as u64);
+    number(rt, b", heard ", r.heard as u64);
+    yes_or_no(rt, b", behind ", reader::behind(r));
+    number(rt, b"; mode ", mode.number() as u64);
+    number(rt, b", lci ", lci.number() as u64);
+    number(rt, b", lpa ", lpa.number() as u64);
+    yes_or_no(rt, b", saa ", s.saa);
+    yes_or_no(rt, b", lpa awaited ", s.lpa_awaited);
+    number(rt, b", too ", too.number() as u64);
+    number(rt, b", armed ", s.armed as u64);
+    number(rt, b", count ", s.count as u64);
+    say(rt, b"\n");
     r
 }
 
-fn number(name: &[u8], n: u64) {
-    io::write_all(STDOUT_FILENO, name);
-    io::print_decimal(STDOUT_FILENO, n);
+fn number(rt: HostRuntime, name: &[u8], n: u64) {
+    say(rt, name);
+    let _ = print!(rt; "{n}");
 }
 
-fn yes_or_no(name: &[u8], yes: bool) {
-    io::write_all(STDOUT_FILENO, name);
+fn yes_or_no(rt: HostRuntime, name: &[u8], yes: bool) {
+    say(rt, name);
     if yes {
-        io::write_all(STDOUT_FILENO, b"yes");
+        say(rt, b"yes");
     } else {
-        io::write_all(STDOUT_FILENO, b"no");
+        say(rt, b"no");
     }
+}
+
+// To standard output, which the gate compares.
+fn say(rt: HostRuntime, s: &[u8]) {
+    let _ = rt.stdout().write_all(s);
 }
