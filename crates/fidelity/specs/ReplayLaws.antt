@@ -15,7 +15,8 @@ use Rattle.kinds.specs.declared.status.Status.{Status}
 use Rattle.records.specs.declared.Record.{Record}
 use Rattle.records.specs.declared.Reading.{Reading}
 use Rattle.layout.specs.Record.{record_bytes, records_bytes}
-use Rattle.layout.specs.RecordLaws.{record_read, record_bytes-length}
+use Rattle.layout.specs.RecordLaws.{record_bytes-length}
+use Rattle.layout.proofs.WrittenLaws.{record_read}
 use Rattle.reader.specs.Content.{went_closed, went_by, followed, record_at, reads}
 use Rattle.reader.specs.declared.content.Content.{Content}
 use Rattle.reader.specs.declared.content.Fault.{Fault}

@@ -1,5 +1,5 @@
--- Laws of numbers in bytes: their lengths; a number is read back where it was written, and the bytes of the number that is read are
--- those that stand there; a read sees its own bytes and no others. Assumes nothing.
+-- Laws of numbers in bytes: their lengths; a number of four bytes is read back where it was written, and the bytes of the number that
+-- is read are those that stand there (of two bytes see proofs/WrittenLaws); a read sees its own bytes and no others. Assumes nothing.
 use Rattle.std.specs.Prelude.{ℕ, ◌+◌, ◌*◌, ◌/◌, ◌%◌, ◌^◌, ◌<◌, ◌≤◌, List, [], ◌∷◌, ◌++◌, ◌≡◌, refl, length, get_or, drop}
 use Rattle.std.proofs.Common.{append_assoc, ap₂, ◌∙◌, add-zero, add_assoc, mod-eq_of_lt, arith, get_or-drop}
 use Rattle.std.proofs.Math.ListN.{get_or-append}
@@ -39,10 +39,10 @@ four_joined n h =
     ∙ rw (high_half n h, low_half n) (halves_joined n)
 
 -- the last byte of a number, and what is left without it
-last_byte : (n b : ℕ) → b < 256 → (n * 256 + b) % 256 ≡ b
+pub last_byte : (n b : ℕ) → b < 256 → (n * 256 + b) % 256 ≡ b
 last_byte n b h = omega arith
 
-without_last : (n b : ℕ) → b < 256 → (n * 256 + b) / 256 ≡ n
+pub without_last : (n b : ℕ) → b < 256 → (n * 256 + b) / 256 ≡ n
 without_last n b h = omega arith
 
 without_two : (n : ℕ) → n / 65536 ≡ n / 256 / 256
@@ -50,10 +50,6 @@ without_two n = omega arith
 
 without_three : (n : ℕ) → n / 16777216 ≡ n / 256 / 256 / 256
 without_three n = omega arith
-
-pub join2-bytes : (a b : ℕ) → a < 256 → b < 256 → two (join2 a b) ≡ a ∷ b ∷ []
-unfolding two
-join2-bytes a b ha hb = rw (without_last a b hb, last_byte a b hb, mod-eq_of_lt ha)
 
 pub join4-bytes : (a b c d : ℕ) → a < 256 → b < 256 → c < 256 → d < 256 → four (join4 a b c d) ≡ a ∷ b ∷ c ∷ d ∷ []
 unfolding four
@@ -118,14 +114,6 @@ u32_front a b i room =
 
 -- What is written is read ----------------------------------------------------------------------------------------------------
 
-two_read_front : (post : List ℕ) (n : ℕ) → n < 2 ^ 16 → u16_at (two n ++ post) 0 ≡ n
-unfolding u16_at two
-two_read_front post n fits = two_joined n fits
-
-pub two_read : (pre post : List ℕ) (n : ℕ) → n < 2 ^ 16 → u16_at (pre ++ two n ++ post) (length pre) ≡ n
-two_read pre post n fits =
-    rw (append_assoc pre (two n) post, ← add-zero (length pre), u16_after pre (two n ++ post) 0) (two_read_front post n fits)
-
 four_read_front : (post : List ℕ) (n : ℕ) → n < 2 ^ 32 → u32_at (four n ++ post) 0 ≡ n
 unfolding u32_at four
 four_read_front post n fits = four_joined n fits
@@ -134,17 +122,9 @@ pub four_read : (pre post : List ℕ) (n : ℕ) → n < 2 ^ 32 → u32_at (pre +
 four_read pre post n fits =
     rw (append_assoc pre (four n) post, ← add-zero (length pre), u32_after pre (four n ++ post) 0) (four_read_front post n fits)
 
--- the same, where the place is known only by an equation
-pub two_read_at : (pre post : List ℕ) (n at : ℕ) → length pre ≡ at → n < 2 ^ 16 → u16_at (pre ++ two n ++ post) at ≡ n
-two_read_at pre post n at e fits = rw (← e) (two_read pre post n fits)
-
 -- What is read is what stands there ------------------------------------------------------------------------------------------
 
 module _ (s : List ℕ) (i : ℕ) (bytes : AreBytes s) where
-  pub two_written : two (u16_at s i) ≡ get_or s i 0 ∷ get_or s (i + 1) 0 ∷ []
-  unfolding u16_at
-  two_written = join2-bytes (get_or s i 0) (get_or s (i + 1) 0) (bytes i) (bytes (i + 1))
-
   pub four_written : four (u32_at s i) ≡ get_or s i 0 ∷ get_or s (i + 1) 0 ∷ get_or s (i + 2) 0 ∷ get_or s (i + 3) 0 ∷ []
   unfolding u32_at
   four_written =
