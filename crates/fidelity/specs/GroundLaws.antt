@@ -15,7 +15,8 @@ use Rattle.state.specs.declared.State.{State}
 use Rattle.blocks.specs.Block.{intact, head_of}
 use Rattle.blocks.specs.BlockLaws.{intact-length, intact_check, intact_other_length, intact_wrong_check}
 use Rattle.reader.specs.Reader.{reader_sound, answered, raised, ahead, onward, in_turn, read_of}
-use Rattle.reader.specs.ReaderLaws.{read_damaged, read_other_log, read_already, read_gap, read_in_turn, read_sound}
+use Rattle.reader.specs.ReaderLaws.{read_damaged, read_other_log, read_already, read_gap, read_in_turn}
+use Rattle.reader.proofs.SoundLaws.{read_sound}
 use Rattle.reader.specs.declared.reply.Reply.{Reply}
 use Rattle.reader.specs.declared.reply.Read.{Read}
 use Rattle.fidelity.specs.Pass.{At, Stray, another_length, wrong_check, another_log, Delivery, Ground, after_read, hears}

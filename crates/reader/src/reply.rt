@@ -5,7 +5,7 @@ ghost use Rattle.reader.specs.Reader.{reply_number};
 use crate::Reader;
 
 // The answers, in the order of their numbers.
-#[derive(Drop)]
+#[derive(Clone, Copy)]
 pub enum Reply {
     Applied,
     Already,
@@ -16,7 +16,7 @@ pub enum Reply {
     RState,
 }
 
-#[derive(Drop)]
+#[derive(Clone, Copy)]
 pub struct Read {
     pub reader: Reader,
     pub answer: Reply,
