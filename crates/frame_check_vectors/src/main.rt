@@ -4,60 +4,67 @@
 
 ghost use Rattle.std.specs.Prelude.{◌≤◌, length};
 
-use libc::STDOUT_FILENO;
+use std::io;
 use trial_blocks::bit_by_bit;
 
-fn main() {
-    published(b"123456789", b"123456789", 0x29B1);
-    published(b"00 00", &[0, 0], 0x1D0F);
-    published(b"00 00 00", &[0, 0, 0], 0xCC9C);
-    published(b"AB CD EF 01", &[0xAB, 0xCD, 0xEF, 0x01], 0x04A2);
+fn main(rt: HostRuntime) -> io::Result<()> {
+    published(rt, "123456789", b"123456789", 0x29B1)?;
+    published(rt, "00 00", &[0, 0], 0x1D0F)?;
+    published(rt, "00 00 00", &[0, 0, 0], 0xCC9C)?;
+    published(rt, "AB CD EF 01", &[0xAB, 0xCD, 0xEF, 0x01], 0x04A2)?;
     published(
-        b"14 56 F8 9A 00 01",
+        rt,
+        "14 56 F8 9A 00 01",
         &[0x14, 0x56, 0xF8, 0x9A, 0x00, 0x01],
         0x7FD5,
-    );
-    published(b"no bytes", b"", 0xFFFF);
-    compare(b"bit by bit, 123456789", 0x29B1, bit_by_bit(b"123456789"));
+    )?;
+    published(rt, "no bytes", b"", 0xFFFF)?;
+    compare(
+        rt,
+        "bit by bit, 123456789",
+        0x29B1,
+        bit_by_bit(b"123456789"),
+    )?;
     let bytes = varied();
-    lengths(&bytes);
-    compare(b"510 bytes", bit_by_bit(&bytes), frame_check::check(&bytes));
+    lengths(rt, &bytes)?;
+    compare(
+        rt,
+        "510 bytes",
+        bit_by_bit(&bytes),
+        frame_check::check(&bytes),
+    )
 }
 
 // The check of a string whose check is published.
-fn published(name: &[u8], string: &[u8], expected: u16) {
-    compare(name, expected, frame_check::check(string));
+fn published(rt: HostRuntime, name: &str, string: &[u8], expected: u16) -> io::Result<()> {
+    compare(rt, name, expected, frame_check::check(string))
 }
 
 // The first 1 to 40 of the bytes: no word to five, with each number of bytes after them.
-fn lengths(bytes: &[u8])
+fn lengths(rt: HostRuntime, bytes: &[u8]) -> io::Result<()>
     requires { 40 ≤ length bytes.now }
 {
     for n in 1..41 {
-        first(bytes, n);
+        first(rt, bytes, n)?;
     }
+    Ok(())
 }
 
 // The first n of the bytes, both ways.
-fn first(bytes: &[u8], n: usize)
+fn first(rt: HostRuntime, bytes: &[u8], n: usize) -> io::Result<()>
     requires { n ≤ length bytes.now }
 {
     let part = &bytes[..n];
-    io::print_decimal(STDOUT_FILENO, n as u64);
-    compare(b" bytes", bit_by_bit(part), frame_check::check(part));
+    print!(rt; "{n}")?;
+    compare(rt, " bytes", bit_by_bit(part), frame_check::check(part))
 }
 
 // One line: what was compared, and how it went.
-fn compare(name: &[u8], expected: u16, found: u16) {
-    io::write_all(STDOUT_FILENO, name);
-    io::write_all(STDOUT_FILENO, b": ");
-    io::print_hex(STDOUT_FILENO, found as u64, 4);
+fn compare(rt: HostRuntime, name: &str, expected: u16, found: u16) -> io::Result<()> {
     if found == expected {
-        io::write_all(STDOUT_FILENO, b", same\n");
+        println!(rt; "{name}: {found:04x}, same")
     } else {
-        io::write_all(STDOUT_FILENO, b", DIFFERENT, expected ");
-        io::print_hex(STDOUT_FILENO, expected as u64, 4);
-        io::write_all(STDOUT_FILENO, b"\n");
+        println!(rt; "{name}: {found:04x}, DIFFERENT, expected {expected:04x}")
     }
 }
 

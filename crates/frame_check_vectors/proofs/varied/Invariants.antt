@@ -1,0 +1,6 @@
+-- `varied`: the state stays below what it is divided by.
+use Rattle.std.proofs.Common.{◌<◌}
+use Rattle.frame_check_vectors.proofs.varied.Given as goal
+
+abbrev pub invariant-loop-i : goal.invariant-loop-i
+invariant-loop-i l = l.state < 65537
