@@ -19,7 +19,8 @@ use Rattle.rules.specs.Ruling.{ruling_of}
 use Rattle.manager.specs.Log.{blank_records, records_with, head_with, head_next}
 use Rattle.manager.specs.LogLaws.{state_sound, log_clauses}
 use Rattle.manager.specs.Manager.{fresh_head, both_sound, is_logged, Outcome, kept, added, turned, manager_step, manager_flush}
-use Rattle.manager.specs.CaseLaws.{Heard, step_cases, flush_cases}
+use Rattle.manager.specs.CaseLaws.{Heard, flush_cases}
+use Rattle.manager.proofs.StepLaws.{step_cases}
 use Rattle.fidelity.specs.Pass.{Operation, stepping, flushing, EventBytes, Run, fresh_run, after_step, after_flush, after_all, run_of, At}
 use Rattle.fidelity.specs.Interface.{whole, Ruled}
 use Rattle.fidelity.specs.InterfaceLaws.{ruled}

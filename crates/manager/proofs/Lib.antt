@@ -1,2 +1,3 @@
+pub mod StepLaws
 pub mod Outcomes
 pub mod Turns
