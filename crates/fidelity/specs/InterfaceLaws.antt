@@ -1,7 +1,7 @@
 -- The interface, its one law: what the rules make of an event in a sound state is an event's draft. This file alone uses the laws of
 -- the rules.
 -- Assumes nothing.
-use Rattle.std.specs.Prelude.{ℕ, ◌+◌, ◌^◌, ◌<◌, true, [], ◌∷◌, ◌++◌, ◌≡◌, length}
+use Rattle.std.specs.Prelude.{ℕ, ◌^◌, ◌<◌, true, [], ◌∷◌, ◌++◌, ◌≡◌, length}
 use Rattle.std.proofs.Math.Path.{ap}
 use Rattle.std.proofs.Common.{sym, ◌∙◌}
 use Rattle.kinds.specs.Kinds.{last_number}

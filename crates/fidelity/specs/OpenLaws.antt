@@ -1,6 +1,6 @@
 -- Laws of the open block: an empty one, one event more, and what it is when it is closed: a link of the chain.
 -- Assumes nothing.
-use Rattle.std.specs.Prelude.{ℕ, suc, ◌+◌, ◌-◌, ◌*◌, ◌^◌, ◌<◌, ◌≤◌, Bool, true, ◌≡◌, refl, take}
+use Rattle.std.specs.Prelude.{ℕ, suc, ◌+◌, ◌-◌, ◌*◌, ◌^◌, ◌<◌, ◌≤◌, true, ◌≡◌, refl, take}
 use mathlib.Core.List.{List, [], ◌∷◌, ◌++◌, append_assoc}
 use Rattle.std.proofs.Common.{inl, inr, sym, ◌∙◌, add-zero, arith, le-leb, length-append, take-append-drop, take_all}
 use Rattle.std.proofs.Math.Path.{ap}

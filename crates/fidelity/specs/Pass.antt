@@ -2,7 +2,7 @@
 -- the ground made of it. These are the words of the statement in Fidelity; all they depend on is what the contracts of `manager` and
 -- `reader` cite.
 -- Assumes nothing.
-use Rattle.std.specs.Prelude.{ℕ, zero, suc, ◌+◌, ◌-◌, ◌*◌, Bool, true, false, ◌⊎◌, ◌≡◌, length, take, eqb, if◌then◌else◌}
+use Rattle.std.specs.Prelude.{ℕ, zero, suc, ◌+◌, ◌-◌, ◌*◌, Bool, ◌⊎◌, ◌≡◌, length, take, eqb, if◌then◌else◌}
 use mathlib.Core.List.{List, [], ◌∷◌, ◌++◌, Memᴰ}
 use Rattle.frame_check.specs.Check.{check_of}
 use Rattle.state.specs.State.{fresh}

@@ -1,7 +1,7 @@
 -- State, the law of the rules: an event's records leave the shape of a sound state sound, and leave room for the STATUS. Each event is
 -- tried in all outlines, once for all.
 -- Assumes nothing.
-use Rattle.std.specs.Prelude.{ℕ, ◌<◌, Bool, true, false, ◌&&◌, ◌||◌, List, [], ◌∷◌, ◌≡◌, refl, ltb, length}
+use Rattle.std.specs.Prelude.{ℕ, ◌<◌, Bool, true, false, ◌||◌, List, ◌∷◌, ◌≡◌, refl, ltb, length}
 use Rattle.std.proofs.lemmas.Bool.{false≢true, not-true}
 use Rattle.std.proofs.Common.{sym, ◌∙◌, ltb-true}
 use Rattle.kinds.specs.Choice.{every, some}
@@ -18,9 +18,9 @@ use Rattle.events.specs.declared.Event.{Event}
 use Rattle.records.specs.Record.{most_records}
 use Rattle.records.specs.declared.Record.{Record}
 use Rattle.rules.specs.Rules.{rule_of, unheard, verdict_of}
-use Rattle.rule_laws.specs.Refusals.{refusals_of, met, unmet}
+use Rattle.rule_laws.specs.Refusals.{met, unmet}
 use Rattle.rule_laws.specs.RefusalLaws.{verdict-records}
-use Rattle.rule_laws.specs.Outline.{outline, every_outline, keeps, passes_by, passes}
+use Rattle.rule_laws.specs.Outline.{outline, every_outline, keeps, passes}
 use Rattle.rule_laws.specs.OutlineLaws.{outline_shape, outline-every}
 
 abbrev Tried : State → Event → Type 0

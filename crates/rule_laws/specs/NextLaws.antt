@@ -1,6 +1,6 @@
 -- State, the law of the rules: soundness is kept by every event, while there is a number for it.
 -- Assumes nothing.
-use Rattle.std.specs.Prelude.{◌<◌, true, List, ◌≡◌, refl}
+use Rattle.std.specs.Prelude.{◌<◌, true, List, ◌≡◌}
 use Rattle.std.proofs.Common.{◌∙◌, arith}
 use Rattle.kinds.specs.Kinds.{last_number}
 use Rattle.records.specs.declared.Record.{Record}

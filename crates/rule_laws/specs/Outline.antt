@@ -2,7 +2,7 @@
 -- does not look at outside BOOT, the awaited starts, stays the state's own, unknown. So there are few outlines of sound shape, and what
 -- a rule does to all of them is one computed test.
 -- Assumes nothing.
-use Rattle.std.specs.Prelude.{ℕ, Bool, true, ◌&&◌, ◌||◌, List, length, ltb}
+use Rattle.std.specs.Prelude.{Bool, true, ◌&&◌, ◌||◌, List, length, ltb}
 use Rattle.kinds.specs.Choice.{when, every, some}
 use Rattle.kinds.specs.Kinds.{modes, tasks, lpa_modes, too_states, flags, flag_number}
 use Rattle.state.specs.State.{rebooted}

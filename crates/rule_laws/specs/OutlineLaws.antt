@@ -11,7 +11,7 @@ use Rattle.kinds.specs.KindsLaws.{mode_every, task_every, lpa_mode_every, too_st
 use Rattle.state.specs.State.{rebooted}
 use Rattle.soundness.specs.Sound.{timer_on, calibration_sound, physics_sound, too_sound, boot_sound, tasks_sound, shape_sound}
 use Rattle.soundness.specs.SoundLaws.{shape_clauses}
-use Rattle.state.specs.State.{with_mode, with_lci, with_lpa, with_lpa_mode, with_saa, with_lci_awaited, with_lpa_awaited, with_too, with_armed, with_count}
+use Rattle.state.specs.State.{with_mode, with_lci, with_lpa, with_lpa_mode, with_saa, with_lci_awaited, with_lpa_awaited, with_too, with_count}
 use Rattle.state.specs.Effect.{one_more, effect, effects}
 use Rattle.state.specs.EffectLaws.{effect_count, one_more_below}
 use Rattle.state.specs.declared.State.{State}

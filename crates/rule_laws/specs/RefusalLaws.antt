@@ -1,7 +1,7 @@
 -- Answers of the manager, laws: an event is refused exactly where the condition of a refusal holds, with the first in their order
 -- whose condition does; a refusal has no records but its STATUS. What a rule says in any state, sound or not, stands here too.
 -- Assumes nothing.
-use Rattle.std.specs.Prelude.{ℕ, ◌+◌, ◌≤◌, Bool, true, false, ◌&&◌, ◌||◌, List, [], ◌∷◌, ◌≡◌, refl, leb, if◌then◌else◌}
+use Rattle.std.specs.Prelude.{ℕ, ◌+◌, ◌≤◌, Bool, true, false, ◌&&◌, List, [], ◌∷◌, ◌≡◌, refl, leb}
 use Rattle.std.proofs.Math.Bool.{and-false, or-true}
 use Rattle.std.proofs.Common.{true≢false, sym, ◌∙◌, arith, leb-true, le-leb, eq-eqb}
 use Rattle.std.proofs.lemmas.Bool.{not-true}
@@ -15,7 +15,7 @@ use Rattle.records.specs.Record.{parts_of_record, not_status}
 use Rattle.records.specs.declared.Record.{Record}
 use Rattle.rules.specs.Rule.{Verdict, verdict, unless}
 use Rattle.rules.specs.Rules.{rule_of, verdict_of, starts_physics}
-use Rattle.rule_laws.specs.Refusals.{refusals_of, in_order, met, unmet, met_as, met_from}
+use Rattle.rule_laws.specs.Refusals.{refusals_of, in_order, unmet, met_as, met_from}
 
 -- A list of refusals in order ------------------------------------------------------------------------------------------------
 
