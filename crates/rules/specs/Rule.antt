@@ -1,7 +1,7 @@
 -- Mode rules: the form of a rule, and the conditions and sections that several rules share. A rule says when an event is refused,
 -- and what is done where it is not. All conditions look at the state before the event.
 -- Assumes nothing.
-use Rattle.std.specs.Prelude.{Bool, true, false, not, ◌&&◌, ◌||◌, List, [], ◌∷◌, ◌++◌, if◌then◌else◌}
+use Rattle.std.specs.Prelude.{Bool, List, [], ◌∷◌, if◌then◌else◌}
 use Rattle.kinds.specs.Kinds.{mode_is, task_is, too_state_is}
 use Rattle.kinds.specs.declared.mode.Mode.{Mode}
 use Rattle.kinds.specs.declared.task.Task.{Task}

@@ -11,7 +11,8 @@ const LONGEST: usize = 128;
 #[derive(Drop)]
 struct Said {
     bytes: [u8; LONGEST],
-    length: usize,
+    taken: usize,
+    ghost within: { taken ≤ 128 },
 }
 
 impl fmt::Write for Said {
@@ -25,10 +26,10 @@ impl fmt::Write for Said {
 
 impl Said {
     fn push(&mut self, b: u8) {
-        let at = self.length;
+        let at = self.taken;
         if at < LONGEST {
             self.bytes[at] = b;
-            self.length = at + 1;
+            self.taken = at + 1;
         }
     }
 }
@@ -37,13 +38,13 @@ impl Said {
 pub(crate) fn tell(rt: HostRuntime, what: &[u8], error: io::Error) {
     let mut said = Said {
         bytes: [0; LONGEST],
-        length: 0,
+        taken: 0,
     };
     let _ = write!(said, "{error}");
-    let text = before_number(&said.bytes);
+    let text = &said.bytes[..said.taken];
     say(rt, what);
     say(rt, b": ");
-    say(rt, &said.bytes[..text]);
+    say(rt, &text[..before_number(text)]);
     say(rt, b"\n");
 }
 
