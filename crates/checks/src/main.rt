@@ -3,11 +3,12 @@
 
 ghost use Rattle.std.specs.Prelude.{◌≡◌, ◌+◌, ◌*◌, ◌≤◌, length};
 
-use terminal::{BUFFER, Stream, TURNS};
+use terminal::{Output, Stream};
 
 // The length of the longest string.
 const LONGEST: usize = 65535;
 
+// Asked here and not by a function for all programs: what it ran would be a closure, and known as callable only by a clause.
 fn main(rt: HostRuntime) {
     if terminal::none_given(rt) {
         check_all(rt);
@@ -21,21 +22,17 @@ fn main(rt: HostRuntime) {
 
 fn check_all(rt: HostRuntime) {
     let mut string = [0u8; LONGEST];
-    let mut out = [0u8; BUFFER];
-    all(rt, &mut string, &mut out);
-}
-
-fn all(rt: HostRuntime, string: &mut [u8; LONGEST], out: &mut [u8; BUFFER]) {
-    let mut number: u64 = 1;
-    let mut turns = TURNS;
-    while turns > 0 {
-        turns = terminal::turns_left(turns, one(rt, number, string, out));
-        number = std::num::wrapping_add_u64(number, 1);
+    let mut out = Output::new(Stream::Output(rt));
+    for number in 1..=u64::MAX {
+        if !one(rt, number, &mut string, &mut out) {
+            return;
+        }
     }
 }
 
 // Reads the string of this number and writes its check; whether there is a reason to go on.
-fn one(rt: HostRuntime, number: u64, string: &mut [u8; LONGEST], out: &mut [u8; BUFFER]) -> bool {
+// The parameters stay: no plainer, since the strings have lengths of their own, so that `each_piece` does not serve.
+fn one(rt: HostRuntime, number: u64, string: &mut [u8; LONGEST], out: &mut Output) -> bool {
     let mut size = [0u8; 2];
     let came = terminal::fill(rt, &mut size, 2);
     if came == 0 {
@@ -52,16 +49,10 @@ fn joined(high: u8, low: u8) -> usize
     ensures value { result ≡ high * 256 + low }
     ensures upper_bound { result ≤ 65535 }
 {
-    (high as usize) * 256 + (low as usize)
+    usize::from(u16::from_be_bytes([high, low]))
 }
 
-fn body(
-    rt: HostRuntime,
-    number: u64,
-    string: &mut [u8],
-    size: usize,
-    out: &mut [u8; BUFFER],
-) -> bool
+fn body(rt: HostRuntime, number: u64, string: &mut [u8], size: usize, out: &mut Output) -> bool
     requires { size ≤ length string.old }
 {
     let came = terminal::fill(rt, &mut string[..size], size);
@@ -69,27 +60,29 @@ fn body(
         cut(rt, number, came, size, b" bytes came\n");
         return false;
     }
-    line(rt, frame_check::check(&string[..size]), out)
+    line(frame_check::check(&string[..size]), out);
+    !out.failed()
 }
 
-// Written out at once, since who sends strings one by one waits for it; whether it went.
-fn line(rt: HostRuntime, check: u16, out: &mut [u8; BUFFER]) -> bool {
+// Written out at once, since who sends strings one by one waits for it.
+fn line(check: u16, out: &mut Output) {
+    // The library's own form: it fills a buffer and says how far.
     let mut digits = [0u8; 16];
-    let k = io::hex(check as u64, 4, &mut digits);
-    let at = terminal::text(Stream::Output(rt), out, 0, &digits[..k]);
-    let at = terminal::byte(Stream::Output(rt), out, at, b'\n');
-    terminal::flush(Stream::Output(rt), out, at) == 0
+    let k = io::hex(u64::from(check), 4, &mut digits);
+    out.text(&digits[..k]);
+    out.byte(b'\n');
+    out.flush();
 }
 
 // The input has ended inside a string.
 fn cut(rt: HostRuntime, number: u64, came: usize, of: usize, what: &[u8]) {
-    let mut said = [0u8; BUFFER];
-    let at = terminal::text(Stream::Error(rt), &mut said, 0, b"checks: string ");
-    let at = terminal::number(Stream::Error(rt), &mut said, at, number);
-    let at = terminal::text(Stream::Error(rt), &mut said, at, b" is cut: ");
-    let at = terminal::number(Stream::Error(rt), &mut said, at, came as u64);
-    let at = terminal::text(Stream::Error(rt), &mut said, at, b" of ");
-    let at = terminal::number(Stream::Error(rt), &mut said, at, of as u64);
-    let at = terminal::text(Stream::Error(rt), &mut said, at, what);
-    terminal::flush(Stream::Error(rt), &said, at);
+    let mut said = Output::new(Stream::Error(rt));
+    said.text(b"checks: string ");
+    said.number(number);
+    said.text(b" is cut: ");
+    said.number(came as u64);
+    said.text(b" of ");
+    said.number(of as u64);
+    said.text(what);
+    said.flush();
 }

@@ -1,13 +1,16 @@
 -- Events: the codes, what an event's four numbers are, and which four numbers are an event. A field that the paper does not name
 -- is 0, and numbers that are no event are refused, whatever is wrong with them.
 -- Assumes nothing.
-use Rattle.std.specs.Prelude.{ℕ, Bool, true, false, List, [], ◌∷◌, eqb, if◌then◌else◌}
+use Rattle.std.specs.Prelude.{ℕ, Bool, true, false, List, [], ◌∷◌, Result, Ok, Err, eqb, if◌then◌else◌}
 use Rattle.kinds.specs.Choice.{select}
 use Rattle.kinds.specs.Kinds.{flag_number, flag_of}
-use Rattle.kinds.specs.declared.flag.FoundFlag.{FoundFlag}
+use Rattle.kinds.specs.declared.UnknownNumber.{UnknownNumber}
 use Rattle.events.specs.declared.Event.{Event}
 use Rattle.events.specs.declared.EventParts.{EventParts}
-use Rattle.events.specs.declared.FoundEvent.{FoundEvent}
+use Rattle.events.specs.declared.NoEvent.{NoEvent}
+
+abbrev pub no_event : NoEvent
+no_event = record {}
 
 abbrev pub STARTED : ℕ
 STARTED = 1
@@ -111,19 +114,19 @@ abbrev pub is_started : Event → Bool
 is_started e = eqb (parts_of_event e).code STARTED
 
 -- an event that names neither a nor b
-abbrev pub bare_event : Event → ℕ → ℕ → FoundEvent
-bare_event e a b = if eqb a 0 then if eqb b 0 then FoundEvent.Found e else FoundEvent.Unknown else FoundEvent.Unknown
+abbrev pub bare_event : Event → ℕ → ℕ → Result Event NoEvent
+bare_event e a b = if eqb a 0 then if eqb b 0 then Ok e else Err no_event else Err no_event
 
 -- an event that names a alone, and takes any
-abbrev pub single_event : Event → ℕ → FoundEvent
-single_event e b = if eqb b 0 then FoundEvent.Found e else FoundEvent.Unknown
+abbrev pub single_event : Event → ℕ → Result Event NoEvent
+single_event e b = if eqb b 0 then Ok e else Err no_event
 
 -- an event whose a says whether the report is good
-abbrev pub report_event : Event → Event → FoundFlag → ℕ → FoundEvent
-report_event failed good (FoundFlag.Found is_good) b = single_event (if is_good then good else failed) b
-report_event failed good FoundFlag.Unknown b = FoundEvent.Unknown
+abbrev pub report_event : Event → Event → Result Bool UnknownNumber → ℕ → Result Event NoEvent
+report_event failed good (Ok is_good) b = single_event (if is_good then good else failed) b
+report_event failed good (Err e) b = Err no_event
 
-abbrev pub event_rows : ℕ → ℕ → List (ℕ × FoundEvent)
+abbrev pub event_rows : ℕ → ℕ → List (ℕ × Result Event NoEvent)
 event_rows a b =
     (STARTED, bare_event Event.Started a b)
     ∷ (MAINFEEDON, bare_event Event.MainFeedOn a b)
@@ -141,7 +144,7 @@ event_rows a b =
     ∷ (LPASTART, single_event (Event.LpaStart a) b)
     ∷ (LPASTOP, bare_event Event.LpaStop a b)
     ∷ (LPAOTHER, bare_event Event.LpaOther a b)
-    ∷ (TOOSTART, FoundEvent.Found (Event.TooStart a b))
+    ∷ (TOOSTART, Ok (Event.TooStart a b))
     ∷ (TOOABORT, bare_event Event.TooAbort a b)
     ∷ (TOOEXPIRED, single_event (Event.TooExpired a) b)
     ∷ (CALSTATUS, report_event (Event.CalStatus false) (Event.CalStatus true) (flag_of a) b)
@@ -151,6 +154,6 @@ event_rows a b =
     ∷ []
 
 -- the event of four numbers
-unfoldable pub event_of : EventParts → FoundEvent
+unfoldable pub event_of : EventParts → Result Event NoEvent
 event_of p =
-    if eqb p.zero 0 then select p.code (event_rows p.a p.b) FoundEvent.Unknown else FoundEvent.Unknown
+    if eqb p.zero 0 then select p.code (event_rows p.a p.b) (Err no_event) else Err no_event

@@ -2,13 +2,12 @@
 #![tactic(auto)]
 
 ghost use Rattle.std.specs.Prelude.{◌≡◌};
-ghost use Rattle.events.specs.Event.{is_started, parts_of_event, event_of, event_parts, bare_event, single_event, report_event};
+ghost use Rattle.events.specs.Event.{no_event, is_started, parts_of_event, event_of, event_parts, bare_event, single_event, report_event};
 ghost use Rattle.kinds.specs.Kinds.{flag_of};
 
-use kinds::flag;
-use kinds::flag::FoundFlag;
+use kinds::{UnknownNumber, flag};
 
-#[derive(Clone, Copy)]
+#[derive(Clone, Copy, PartialEq, Eq)]
 pub enum Event {
     Started,
     MainFeedOn,
@@ -35,14 +34,12 @@ pub enum Event {
     LpaComplete,
 }
 
-#[derive(Drop)]
-pub enum FoundEvent {
-    Found(Event),
-    Unknown,
-}
+// What was read as an event's numbers is not those of any.
+#[derive(Clone, Copy, PartialEq, Eq)]
+pub struct NoEvent;
 
 // An event as it is sent: its code, the field that is always zero, and its two parameters.
-#[derive(Clone, Copy)]
+#[derive(Clone, Copy, PartialEq, Eq)]
 pub struct EventParts {
     pub code: u16,
     pub zero: u16,
@@ -97,11 +94,28 @@ impl Event {
 
     pub const LPACOMPLETE: u16 = 23;
 
-    #[tactic(auto, unfolding(crate::specs::Event::parts_of_event))]
-    pub fn taken_apart(self) -> EventParts
-        ensures { result ≡ parts_of_event self }
+    // The one event that is heard in BOOT.
+    pub fn is_started(self) -> bool
+        ensures { result ≡ is_started self }
     {
-        match self {
+        EventParts::from(self).code == Event::STARTED
+    }
+}
+
+impl From<UnknownNumber> for NoEvent {
+    ghost from_gives = { λ _ refused. refused ≡ no_event };
+
+    fn from(_flag: UnknownNumber) -> NoEvent {
+        NoEvent
+    }
+}
+
+impl From<Event> for EventParts {
+    ghost from_gives = { λ event parts. parts ≡ parts_of_event event };
+
+    #[tactic(auto, unfolding(crate::specs::Event::parts_of_event))]
+    fn from(event: Event) -> EventParts {
+        match event {
             Event::Started => put_together(Event::STARTED, 0, 0),
             Event::MainFeedOn => put_together(Event::MAINFEEDON, 0, 0),
             Event::PowerOn { mask } => put_together(Event::POWERON, mask, 0),
@@ -121,22 +135,26 @@ impl Event {
             Event::TooStart { run, dwell } => put_together(Event::TOOSTART, run, dwell),
             Event::TooAbort => put_together(Event::TOOABORT, 0, 0),
             Event::TooExpired { armed } => put_together(Event::TOOEXPIRED, armed, 0),
-            Event::CalStatus { good } => put_together(Event::CALSTATUS, flag::number(good), 0),
+            Event::CalStatus { good } => put_together(Event::CALSTATUS, u32::from(good), 0),
             Event::CalComplete => put_together(Event::CALCOMPLETE, 0, 0),
-            Event::LpaStatus { good } => put_together(Event::LPASTATUS, flag::number(good), 0),
+            Event::LpaStatus { good } => put_together(Event::LPASTATUS, u32::from(good), 0),
             Event::LpaComplete => put_together(Event::LPACOMPLETE, 0, 0),
         }
     }
+}
+
+impl TryFrom<EventParts> for Event {
+    type Error = NoEvent;
+
+    ghost try_from_gives = { λ parts found. found ≡ event_of parts };
 
     #[tactic(auto, unfolding(crate::specs::Event::event_of))]
-    pub fn of(parts: EventParts) -> FoundEvent
-        ensures { result ≡ event_of parts }
-    {
+    fn try_from(parts: EventParts) -> Result<Event, NoEvent> {
         let code = parts.code;
         let a = parts.a;
         let b = parts.b;
         if parts.zero != 0 {
-            return FoundEvent::Unknown;
+            return Err(NoEvent);
         }
         match code {
             Event::STARTED => bare(Event::Started, a, b),
@@ -155,32 +173,15 @@ impl Event {
             Event::LPASTART => single(Event::LpaStart { run: a }, b),
             Event::LPASTOP => bare(Event::LpaStop, a, b),
             Event::LPAOTHER => bare(Event::LpaOther, a, b),
-            Event::TOOSTART => FoundEvent::Found(Event::TooStart { run: a, dwell: b }),
+            Event::TOOSTART => Ok(Event::TooStart { run: a, dwell: b }),
             Event::TOOABORT => bare(Event::TooAbort, a, b),
             Event::TOOEXPIRED => single(Event::TooExpired { armed: a }, b),
-            Event::CALSTATUS => report(
-                Event::CalStatus { good: false },
-                Event::CalStatus { good: true },
-                a,
-                b,
-            ),
+            Event::CALSTATUS => single(Event::CalStatus { good: flag::of(a)? }, b),
             Event::CALCOMPLETE => bare(Event::CalComplete, a, b),
-            Event::LPASTATUS => report(
-                Event::LpaStatus { good: false },
-                Event::LpaStatus { good: true },
-                a,
-                b,
-            ),
+            Event::LPASTATUS => single(Event::LpaStatus { good: flag::of(a)? }, b),
             Event::LPACOMPLETE => bare(Event::LpaComplete, a, b),
-            _ => FoundEvent::Unknown,
+            _ => Err(NoEvent),
         }
-    }
-
-    // The one event that is heard in BOOT.
-    pub fn is_started(self) -> bool
-        ensures { result ≡ is_started self }
-    {
-        self.taken_apart().code == Event::STARTED
     }
 }
 
@@ -195,36 +196,18 @@ fn put_together(code: u16, a: u32, b: u32) -> EventParts
     }
 }
 
-fn bare(event: Event, a: u32, b: u32) -> FoundEvent
+fn bare(event: Event, a: u32, b: u32) -> Result<Event, NoEvent>
     ensures { result ≡ bare_event event a b }
 {
     if a == 0 {
         single(event, b)
     } else {
-        FoundEvent::Unknown
+        Err(NoEvent)
     }
 }
 
-fn single(event: Event, b: u32) -> FoundEvent
+fn single(event: Event, b: u32) -> Result<Event, NoEvent>
     ensures { result ≡ single_event event b }
 {
-    if b == 0 {
-        FoundEvent::Found(event)
-    } else {
-        FoundEvent::Unknown
-    }
-}
-
-// A task's report: a says whether it is good.
-fn report(failed: Event, good: Event, a: u32, b: u32) -> FoundEvent
-    ensures { result ≡ report_event failed good (flag_of a) b }
-{
-    let FoundFlag::Found(is_good) = flag::of(a) else {
-        return FoundEvent::Unknown;
-    };
-    if is_good {
-        single(good, b)
-    } else {
-        single(failed, b)
-    }
+    if b == 0 { Ok(event) } else { Err(NoEvent) }
 }

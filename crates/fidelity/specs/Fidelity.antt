@@ -12,8 +12,8 @@
 --          fresh state if there are none: complete.
 -- The operations and the delivery are any, so each of the three holds at every moment.
 --
--- `run_of` and `ground_of` are folds of `manager_step`, `manager_flush` and `read_of`, the definitions that the contracts of `manager::step`,
--- `manager::flush` and `reader::read` cite: what is said here is said of the code. Their words stand in Pass. It is proved in Proof;
+-- `run_of` and `ground_of` are folds of `manager_step`, `manager_flush` and `read_of`, the definitions that the contracts of `Manager::step`,
+-- `Manager::flush` and `Reader::read` cite: what is said here is said of the code. Their words stand in Pass. It is proved in Proof;
 -- RunLaws proves besides that state n of a run is one in which n events are counted (run_numbered).
 --
 -- Three things are assumed, and each is needed. The events' strings are bytes, as their type in the code says: a mask of 2 ^ 32 would

@@ -7,7 +7,7 @@ use mathlib.Core.List.Memᴰ
 use mathlib.Core.List.{List, [], ◌∷◌, ◌++◌, append-nil, Memᴰ}
 use mathlib.Core.List.Sublistᴰ
 use mathlib.Core.List.{Sublistᴰ}
-use Rattle.std.proofs.Common.{inl, inr, ap, sym, ◌∙◌, subst, zero-add, arith, leb-true, leb-false, length-append}
+use Rattle.std.proofs.Common.{inl, inr, ap, sym, ◌∙◌, subst, zero-add, arith, length-append}
 use Rattle.std.proofs.Math.Seq.{append_snoc}
 use Rattle.kinds.specs.ChoiceLaws.{chosen_either}
 use Rattle.state.specs.State.{fresh}
@@ -15,7 +15,7 @@ use Rattle.state.specs.declared.State.{State}
 use Rattle.blocks.specs.Block.{intact, head_of}
 use Rattle.blocks.specs.BlockLaws.{intact-length, intact_check, intact_other_length, intact_wrong_check}
 use Rattle.reader.specs.Reader.{reader_sound, answered, raised, ahead, onward, in_turn, read_of}
-use Rattle.reader.specs.ReaderLaws.{read_damaged, read_other_log, read_already, read_gap, read_in_turn}
+use Rattle.reader.specs.ReaderLaws.{raised_most, read_damaged, read_other_log, read_already, read_gap, read_in_turn}
 use Rattle.reader.proofs.SoundLaws.{read_sound}
 use Rattle.reader.specs.declared.reply.Reply.{Reply}
 use Rattle.reader.specs.declared.reply.Read.{Read}
@@ -35,13 +35,6 @@ pub record Followed (number : ℕ) (states : List State) (blocks : List (List �
   pub low : w.reader.next < w.reader.heard
       → (b : List ℕ) × Memᴰ b rest × Memᴰ b met × ((head_of b).block + 1 ≡ w.reader.heard)
   pub high : (b : List ℕ) → Memᴰ b rest → Memᴰ b met → (head_of b).block < w.reader.heard
-
--- what is heard of, with one block more
-raised_most : (heard block : ℕ) → (heard ≤ raised heard block) × (block < raised heard block)
-raised_most heard block =
-    chosen_either (λ (n : ℕ). (heard ≤ n) × (block < n)) (leb heard block) (block + 1) heard
-    (λ low. let fact : heard ≤ block = leb-true heard block low in (omega arith, omega arith))
-    (λ high. let fact : block < heard = leb-false heard block high in (omega arith, omega arith))
 
 stray_member : {number from to : ℕ} {b : List ℕ} → Stray number b → Member number from to b → ⊥
 stray_member {b} (another_length other) m = other (intact-length b m.whole)
@@ -142,7 +135,7 @@ module _ (number : ℕ) (states : List State) (blocks : List (List ℕ)) (end : 
       gap : read_of w.reader b ≡ answered (ahead w.reader (head_of b).block) Reply.Gap
       gap = read_gap w.reader b f.own known.whole (known.log ∙ sym f.log) known.earlier later
 
-      most : (w.reader.heard ≤ raised w.reader.heard (head_of b).block) × ((head_of b).block < raised w.reader.heard (head_of b).block)
+      most : (w.reader.heard ≤ raised w.reader.heard (head_of b).block) × ((head_of b).block + 1 ≤ raised w.reader.heard (head_of b).block)
       most = raised_most w.reader.heard (head_of b).block
 
       Behind : ℕ → Type 0
@@ -170,7 +163,7 @@ module _ (number : ℕ) (states : List State) (blocks : List (List ℕ)) (end : 
             low = behind;
             high =
                 λ c n n'. met_cases (λ (x : List ℕ). (head_of x).block < raised w.reader.heard (head_of b).block) c
-                (λ before. omega (arith, f.high c n before, most.0)) most.1 n';
+                (λ before. omega (arith, f.high c n before, most.0)) (omega (arith, most.1)) n';
           }
 
       first : (r : List (List ℕ)) → Chain number states w.reader.next w.reader.state (b ∷ r) end → ⊥
@@ -202,7 +195,7 @@ module _ (number : ℕ) (states : List State) (blocks : List (List ℕ)) (end : 
       heard : ℕ
       heard = raised w.reader.heard w.reader.next
 
-      most : (w.reader.heard ≤ heard) × (w.reader.next < heard)
+      most : (w.reader.heard ≤ heard) × (w.reader.next + 1 ≤ heard)
       most = raised_most w.reader.heard w.reader.next
 
       in_rest : (c : List ℕ) → Memᴰ c more → Memᴰ c f.rest

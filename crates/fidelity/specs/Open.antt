@@ -1,7 +1,7 @@
 -- The open block: its records, as many as its head says, stand in its bytes, can be read back, and lead from the state at its
 -- count-before to the present state. Whole events only: the last record, if there is one, closes the last event.
 -- Assumes nothing.
-use Rattle.std.specs.Prelude.{ℕ, ◌*◌, true, List, [], ◌∷◌, ◌++◌, ◌⊎◌, ◌≡◌, length, take}
+use Rattle.std.specs.Prelude.{ℕ, ◌*◌, true, List, [], ◌∷◌, ◌++◌, ◌⊎◌, ◌≡◌, length, take, Ok}
 use Rattle.kinds.specs.Choice.{every}
 use Rattle.records.specs.Record.{record_in_range, v_fits}
 use Rattle.layout.specs.Record.{records_bytes}
@@ -11,7 +11,6 @@ use Rattle.records.specs.declared.Record.{Record}
 use Rattle.blocks.specs.Block.{RECORDS}
 use Rattle.layout.specs.Record.{RECORD}
 use Rattle.blocks.specs.declared.block.Head.{Head}
-use Rattle.reader.specs.declared.content.Content.{Content}
 use Rattle.fidelity.specs.Replay.{replay}
 
 -- no records, or the last is the STATUS of event n
@@ -26,5 +25,5 @@ pub record Open (s : State) (h : Head) (records : List ℕ) (t : State) : Type 0
   pub range : every record_in_range logged ≡ true
   pub fit : every v_fits logged ≡ true
   pub before : h.before ≡ s.count
-  pub leads : replay 0 s logged ≡ Content.Right t
+  pub leads : replay 0 s logged ≡ Ok t
   pub ends : Ends t.count logged

@@ -1,6 +1,6 @@
 -- Laws of the open block: an empty one, one event more, and what it is when it is closed: a link of the chain.
 -- Assumes nothing.
-use Rattle.std.specs.Prelude.{ℕ, suc, ◌+◌, ◌-◌, ◌*◌, ◌^◌, ◌<◌, ◌≤◌, true, ◌≡◌, refl, take}
+use Rattle.std.specs.Prelude.{ℕ, suc, ◌+◌, ◌-◌, ◌*◌, ◌^◌, ◌<◌, ◌≤◌, true, ◌≡◌, refl, take, Ok}
 use mathlib.Core.List.{List, [], ◌∷◌, ◌++◌, append_assoc}
 use Rattle.std.proofs.Common.{inl, inr, sym, ◌∙◌, add-zero, arith, le-leb, length-append, take-append-drop, take_all}
 use Rattle.std.proofs.Math.Path.{ap}
@@ -15,7 +15,6 @@ use Rattle.records.specs.Record.{record_in_range, v_fits, parts_of_record}
 use Rattle.state.specs.declared.State.{State}
 use Rattle.kinds.specs.declared.status.Status.{Status}
 use Rattle.records.specs.declared.Record.{Record}
-use Rattle.records.specs.declared.Reading.{Reading}
 use Rattle.layout.specs.Bytes.{two}
 use Rattle.blocks.specs.Block.{records_at, used_most, RECORDS, check_at, head_of, used_in_range, head_bytes, checked_bytes, block_bytes}
 use Rattle.blocks.specs.BlockLaws.{head-length}
@@ -29,7 +28,6 @@ use Rattle.manager.specs.Log.{blank_records, records_with}
 use Rattle.manager.specs.LogLaws.{Clauses, used_before}
 use Rattle.reader.specs.Content.{record_at, reads, content_of}
 use Rattle.reader.specs.ContentLaws.{content_read}
-use Rattle.reader.specs.declared.content.Content.{Content}
 use Rattle.fidelity.specs.Pass.{last_in, event_number}
 use Rattle.fidelity.specs.Interface.{whole, Ruled}
 use Rattle.fidelity.specs.Replay.{StandIn}
@@ -105,7 +103,7 @@ module _ (s t : State) (h h' : Head) (records : List ℕ) (d : Draft) (o : Open 
         leads =
             replay-append o.logged more 0 s t o.leads
             ∙ replay-event r.actions 0 t r.status (t.count + 1) r.quiet (omega (arith, r.few)) refl r.sound
-            ∙ ap Content.Right (sym r.state);
+            ∙ ap Ok (sym r.state);
         ends = inr (o.logged ++ r.actions, r.status, ends_more);
       }
 
@@ -118,7 +116,7 @@ drop-after : (xs ys : List ℕ) (k n : ℕ) → length xs ≡ k → drop (k + n)
 drop-after xs ys k n e = rw (← e) (drop-append-add xs ys n)
 
 stand_last : (b : List ℕ) (front : List Record) (r : Record) (at : ℕ) → StandIn b at (front ++ r ∷ [])
-    → read_record b (record_at (at + length front)) ≡ Reading.Right r
+    → read_record b (record_at (at + length front)) ≡ Ok r
 stand_last b [] r at stand = rw (add-zero at) stand.0
 stand_last b (x ∷ front) r at stand =
     let on : at + suc (length front) ≡ at + 1 + length front = omega arith in
@@ -177,7 +175,7 @@ module _ (s t : State) (h : Head) (records : List ℕ) (o : Open s h records t) 
     used_closed : used_in_range h.used ≡ true
     used_closed = rw (le-leb 1 h.used (omega arith), le-leb h.used used_most room)
 
-    content_closed : content_of s (block_bytes h records) ≡ Content.Right t
+    content_closed : content_of s (block_bytes h records) ≡ Ok t
     content_closed =
         content_read s (block_bytes h records) (rw head_closed used_closed) (rw head_closed o.before) (rw head_closed (λ e. omega (arith, counts)))
         (rw head_closed (zeros_closed log.zero))

@@ -2,13 +2,14 @@
 -- the ground made of it. These are the words of the statement in Fidelity; all they depend on is what the contracts of `manager` and
 -- `reader` cite.
 -- Assumes nothing.
-use Rattle.std.specs.Prelude.{ℕ, zero, suc, ◌+◌, ◌-◌, ◌*◌, Bool, ◌⊎◌, ◌≡◌, length, take, eqb, if◌then◌else◌}
+use Rattle.std.specs.Prelude.{ℕ, zero, suc, ◌+◌, ◌-◌, ◌*◌, Bool, ◌⊎◌, ◌≡◌, Result, Ok, Err, length, take, eqb, if◌then◌else◌}
 use mathlib.Core.List.{List, [], ◌∷◌, ◌++◌, Memᴰ}
 use Rattle.frame_check.specs.Check.{check_of}
 use Rattle.state.specs.State.{fresh}
 use Rattle.records.specs.Record.{parts_of_record}
 use Rattle.state.specs.declared.State.{State}
-use Rattle.records.specs.declared.Reading.{Reading}
+use Rattle.records.specs.declared.Record.{Record}
+use Rattle.records.specs.declared.Wrong.{Wrong}
 use Rattle.layout.specs.Bytes.{AreBytes, u16_at}
 use Rattle.blocks.specs.Block.{records_at, check_at, BLOCK, head_of}
 use Rattle.layout.specs.Record.{RECORD, read_record}
@@ -77,11 +78,9 @@ At (y ∷ ys) (suc n) x = At ys n x
 
 -- the number of the last event in a block: v of its last record, which in a block of a run is the STATUS that closes that event
 -- (`last` in Chain)
-abbrev pub event_number : Reading → ℕ
-event_number (Reading.Right r) = (parts_of_record r).v
-event_number Reading.WrongCode = 0
-event_number Reading.WrongD = 0
-event_number Reading.WrongV = 0
+abbrev pub event_number : Result Record Wrong → ℕ
+event_number (Ok r) = (parts_of_record r).v
+event_number (Err wrong) = 0
 
 unfoldable pub last_in : List ℕ → ℕ
 last_in b = event_number (read_record b (records_at + RECORD * ((head_of b).used - 1)))

@@ -1,7 +1,7 @@
 -- Replaying records, laws: records that stand in a block are read as they are replayed; what is replayed after what was replayed to
 -- its end; and the records of an event are replayed to the state that they lead to.
 -- Assumes nothing.
-use Rattle.std.specs.Prelude.{ℕ, ◌+◌, ◌^◌, ◌<◌, true, false, List, [], ◌∷◌, ◌++◌, ◌≡◌, length, eqb}
+use Rattle.std.specs.Prelude.{ℕ, ◌+◌, ◌^◌, ◌<◌, true, false, List, [], ◌∷◌, ◌++◌, ◌≡◌, length, eqb, Err, Ok, Result}
 use Rattle.std.proofs.Common.{append_assoc, ap, subst, sym, ◌∙◌, arith, eqb-true, eq-eqb, ltb-true, length-append}
 use Rattle.std.proofs.lemmas.Bool.{lt-leb, not-true}
 use Rattle.kinds.specs.Choice.{every}
@@ -13,69 +13,68 @@ use Rattle.records.specs.Record.{most_records, parts_of_record, record_in_range,
 use Rattle.state.specs.declared.State.{State}
 use Rattle.kinds.specs.declared.status.Status.{Status}
 use Rattle.records.specs.declared.Record.{Record}
-use Rattle.records.specs.declared.Reading.{Reading}
 use Rattle.layout.specs.Record.{record_bytes, records_bytes}
 use Rattle.layout.specs.RecordLaws.{record_bytes-length}
 use Rattle.layout.proofs.WrittenLaws.{record_read}
-use Rattle.reader.specs.Content.{went_closed, went_by, followed, record_at, reads}
-use Rattle.reader.specs.declared.content.Content.{Content}
+use Rattle.reader.specs.Content.{went_closed, went_by, followed, record_at, reads, wrong_at}
+use Rattle.reader.specs.declared.content.Mistake.{Mistake}
 use Rattle.reader.specs.declared.content.Fault.{Fault}
 use Rattle.reader.specs.declared.content.Went.{Went}
 use Rattle.fidelity.specs.Replay.{replay, StandIn}
 
-wrong_right : (at : ℕ) (fault : Fault) (s : State) → Content.Wrong at fault ≡ Content.Right s → ⊥
+wrong_right : (at : ℕ) (fault : Fault) (s : State) → wrong_at at fault ≡ Ok s → ⊥
 wrong_right at fault s e = let z : ◌≡◌ {A = ℕ} 0 1 = cc in omega arith
 
 -- nothing is left: no event is open, and the state is the one reached
-replay_end : (k : ℕ) (s t : State) → replay k s [] ≡ Content.Right t → (k ≡ 0) × (s ≡ t)
+replay_end : (k : ℕ) (s t : State) → replay k s [] ≡ Ok t → (k ≡ 0) × (s ≡ t)
 replay_end k s t =
-    chosen_either (λ (c : Content). c ≡ Content.Right t → (k ≡ 0) × (s ≡ t)) (eqb k 0) (Content.Right s) (Content.Wrong 0 Fault.Open)
+    chosen_either (λ (c : Result State Mistake). c ≡ Ok t → (k ≡ 0) × (s ≡ t)) (eqb k 0) (Ok s) (wrong_at 0 Fault.Open)
     (λ none right. (eqb-true k 0 none, cc))
     (λ _ wrong. absurd (wrong_right 0 Fault.Open t wrong))
 
 -- a record that is not wrong, and two ways to go on
-followed_on : (at k : ℕ) (f g : ℕ → State → Content) (t : State) (c : Content)
-    → ((k' : ℕ) (s' : State) → f k' s' ≡ Content.Right t → g k' s' ≡ c)
-    → (w : Went) → followed 0 k f w ≡ Content.Right t → followed at k g w ≡ c
-followed_on at k f g t c on (Went.On s) e = on (k + 1) s e
-followed_on at k f g t c on (Went.Closed s) e = on 0 s e
-followed_on at k f g t c on (Went.Wrong fault) e = absurd (wrong_right 0 fault t e)
+followed_on : (at k : ℕ) (f g : ℕ → State → Result State Mistake) (t : State) (c : Result State Mistake)
+    → ((k' : ℕ) (s' : State) → f k' s' ≡ Ok t → g k' s' ≡ c)
+    → (w : Result Went Fault) → followed 0 k f w ≡ Ok t → followed at k g w ≡ c
+followed_on at k f g t c on (Ok (Went.On s)) e = on (k + 1) s e
+followed_on at k f g t c on (Ok (Went.Closed s)) e = on 0 s e
+followed_on at k f g t c on (Err fault) e = absurd (wrong_right 0 fault t e)
 
-pub reads-replay : (b : List ℕ) (rs : List Record) (at k : ℕ) (s t : State) → StandIn b at rs → replay k s rs ≡ Content.Right t
-    → reads b (length rs) at k s ≡ Content.Right t
+pub reads-replay : (b : List ℕ) (rs : List Record) (at k : ℕ) (s t : State) → StandIn b at rs → replay k s rs ≡ Ok t
+    → reads b (length rs) at k s ≡ Ok t
 unfolding reads
 reads-replay b [] at k s t stand right =
     let ended : (k ≡ 0) × (s ≡ t) = replay_end k s t right in
-    rw (eq-eqb k 0 ended.0) (ap Content.Right ended.1)
+    rw (eq-eqb k 0 ended.0) (ap Ok ended.1)
 reads-replay b (r ∷ rs) at k s t stand right =
     rw stand.0
-    (followed_on at k (λ k' s'. replay k' s' rs) (λ k' s'. reads b (length rs) (at + 1) k' s') t (Content.Right t)
-    (λ k' s'. reads-replay b rs (at + 1) k' s' t stand.1) (went_by k s (Reading.Right r)) right)
+    (followed_on at k (λ k' s'. replay k' s' rs) (λ k' s'. reads b (length rs) (at + 1) k' s') t (Ok t)
+    (λ k' s'. reads-replay b rs (at + 1) k' s' t stand.1) (went_by k s (Ok r)) right)
 
-pub replay-append : (xs ys : List Record) (k : ℕ) (s t : State) → replay k s xs ≡ Content.Right t
+pub replay-append : (xs ys : List Record) (k : ℕ) (s t : State) → replay k s xs ≡ Ok t
     → replay k s (xs ++ ys) ≡ replay 0 t ys
 replay-append [] ys k s t right =
     let ended : (k ≡ 0) × (s ≡ t) = replay_end k s t right in
     λ i. replay (ended.0 i) (ended.1 i) ys
 replay-append (x ∷ xs) ys k s t right =
     followed_on 0 k (λ k' s'. replay k' s' xs) (λ k' s'. replay k' s' (xs ++ ys)) t (replay 0 t ys)
-    (λ k' s'. replay-append xs ys k' s' t) (went_by k s (Reading.Right x)) right
+    (λ k' s'. replay-append xs ys k' s' t) (went_by k s (Ok x)) right
 
 -- The records of an event ------------------------------------------------------------------------------------------------------
 
 went_on : (k : ℕ) (s : State) (r : Record) → k < most_records → is_status r ≡ false
-    → went_by k s (Reading.Right r) ≡ Went.On (effect s r)
+    → went_by k s (Ok r) ≡ Ok (Went.On (effect s r))
 unfolding went_by
 went_on k s r few other = rw (lt-leb most_records k few, other)
 
 went_status : (k : ℕ) (s : State) (x : Status) (n : ℕ) → k < most_records → n ≡ s.count + 1 → sound (effect s (Record.Status x n)) ≡ true
-    → went_by k s (Reading.Right (Record.Status x n)) ≡ Went.Closed (effect s (Record.Status x n))
+    → went_by k s (Ok (Record.Status x n)) ≡ Ok (Went.Closed (effect s (Record.Status x n)))
 unfolding went_by went_closed parts_of_record
 went_status k s x n few next ok = rw (lt-leb most_records k few, eq-eqb n (s.count + 1) next, ok)
 
 pub replay-event : (rs : List Record) (k : ℕ) (s : State) (x : Status) (n : ℕ) → every not_status rs ≡ true → k + length rs < most_records
     → n ≡ s.count + 1 → sound (effects s (rs ++ Record.Status x n ∷ [])) ≡ true
-    → replay k s (rs ++ Record.Status x n ∷ []) ≡ Content.Right (effects s (rs ++ Record.Status x n ∷ []))
+    → replay k s (rs ++ Record.Status x n ∷ []) ≡ Ok (effects s (rs ++ Record.Status x n ∷ []))
 replay-event [] k s x n quiet few next ok =
     ap (followed 0 k (λ k' s'. replay k' s' [])) (went_status k s x n (omega arith) next ok)
 replay-event (r ∷ rs) k s x n quiet few next ok =

@@ -33,14 +33,14 @@ use Rattle.fidelity.specs.OpenLaws.{open_blank, open_more, closed_link}
 
 pub record Kept (number : ℕ) (r : Run) : Type 0 where
   pub base : State
-  pub opened : Open base r.manager.head r.manager.records r.manager.state
-  pub log : r.manager.head.number ≡ number
-  pub blocks : r.manager.head.block ≡ length r.blocks
-  pub most : r.manager.state.count ≤ last_number
-  pub long : length r.states ≡ r.manager.state.count + 1
+  pub opened : Open base r.manager.core.head r.manager.records r.manager.core.state
+  pub log : r.manager.core.head.number ≡ number
+  pub blocks : r.manager.core.head.block ≡ length r.blocks
+  pub most : r.manager.core.state.count ≤ last_number
+  pub long : length r.states ≡ r.manager.core.state.count + 1
   pub numbered : (n : ℕ) (s : State) → At r.states n s → s.count ≡ n
   pub first : At r.states fresh.count fresh
-  pub now : At r.states r.manager.state.count r.manager.state
+  pub now : At r.states r.manager.core.state.count r.manager.core.state
   pub chain : Chain number r.states 0 fresh r.blocks base
 
 fresh-numbered : (n : ℕ) (s : State) → At (fresh ∷ []) n s → s.count ≡ n
@@ -66,10 +66,10 @@ kept_fresh number =
 
 -- the manager's present state, and its open block
 abbrev now : Run → State
-now r = r.manager.state
+now r = r.manager.core.state
 
 abbrev head : Run → Head
-head r = r.manager.head
+head r = r.manager.core.head
 
 abbrev records : Run → List ℕ
 records r = r.manager.records
@@ -84,7 +84,7 @@ module _ (number : ℕ) (small : number < 2 ^ 32) (r : Run) (k : Kept number r) 
   abbrev closed_run : Run
   closed_run =
       record {
-        manager = record { state = now r; head = head_next (head r) 0 (now r).count; records = blank_records };
+        manager = record { core = record { state = now r; head = head_next (head r) 0 (now r).count }; records = blank_records };
         states = r.states;
         blocks = r.blocks ++ block_bytes (head r) (records r) ∷ [];
       }
@@ -118,7 +118,7 @@ module _ (number : ℕ) (small : number < 2 ^ 32) (r : Run) (k : Kept number r) 
     abbrev added_run : Run
     added_run =
         record {
-          manager = record { state = d.state; head = h; records = records_with (records r) (head r).used d };
+          manager = record { core = record { state = d.state; head = h }; records = records_with (records r) (head r).used d };
           states = r.states ++ d.state ∷ [];
           blocks = r.blocks;
         }

@@ -72,9 +72,9 @@ fn compare(rt: HostRuntime, name: &str, expected: u16, found: u16) -> io::Result
 fn varied() -> [u8; 510] {
     let mut bytes = [0u8; 510];
     let mut state: u32 = 1;
-    for i in 0..510 {
+    for byte in &mut bytes {
         state = (state * 75 + 74) % 65537;
-        bytes[i] = (state % 256) as u8;
+        *byte = (state % 256) as u8;
     }
     bytes
 }

@@ -2,7 +2,7 @@
 -- and its numbers say the same, once each of its numbers is read back. Nothing here is of the paper.
 -- Assumes nothing.
 use Rattle.std.specs.Prelude.{ℕ, ◌<◌, Bool, true, false, ◌&&◌, List, [], ◌∷◌, ◌++◌, ◌≡◌, refl, eqb, ltb, if◌then◌else◌}
-use Rattle.std.proofs.Common.{true≢false, eqb-true, ltb-true}
+use Rattle.std.proofs.Common.{true≢false, eqb-true, ltb-true, sym, ap, ◌∙◌}
 use Rattle.std.proofs.lemmas.Bool.{false≢true}
 use Rattle.std.proofs.Math.Bool.{and_assoc}
 use Rattle.kinds.specs.Choice.{when, every, some, numbered, select}
@@ -129,3 +129,8 @@ module _ {A B : Type 0} {number : A → ℕ} {found : A → B} {unknown : B} {xs
   -- a bound of the listed numbers, computed, bounds them all
   pub kind_below : (bound : ℕ) → every (λ x. ltb (number x) bound) xs ≡ true → (x : A) → number x < bound
   kind_below bound all x = ltb-true (number x) bound (kind_every (λ y. ltb (number y) bound) all x)
+
+  -- two that have one number are one: what is compared by numbers is compared as itself
+  pub kind_alike : (x y : A) → eqb (number x) (number y) ≡ true → x ≡ y
+  kind_alike x y e =
+      kind.same x y (sym (kind.back x) ∙ ap (numbered number found unknown xs) (eqb-true (number x) (number y) e) ∙ kind.back y)

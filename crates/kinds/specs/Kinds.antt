@@ -1,25 +1,23 @@
 -- State, and Answers of the manager: the kinds and their numbers, each of which stands here once; everything else goes by the names.
--- The codes of events and of records stand on their own floors. A number is read back as the kind that has it, and as no kind where
--- none has.
+-- The codes of events and of records stand on their own floors. A number is read back as the kind that has it, and as an unknown
+-- number where none has.
 -- Assumes nothing.
-use Rattle.std.specs.Prelude.{ℕ, Bool, true, false, List, [], ◌∷◌, eqb}
+use Rattle.std.specs.Prelude.{ℕ, Bool, true, false, List, [], ◌∷◌, Result, Ok, Err, eqb}
 use Rattle.kinds.specs.Choice.{numbered, some, place}
+use Rattle.kinds.specs.declared.UnknownNumber.{UnknownNumber}
 use Rattle.kinds.specs.declared.mode.Mode.{Mode}
-use Rattle.kinds.specs.declared.mode.FoundMode.{FoundMode}
 use Rattle.kinds.specs.declared.task.Task.{Task}
-use Rattle.kinds.specs.declared.task.FoundTask.{FoundTask}
 use Rattle.kinds.specs.declared.lpa_mode.LpaMode.{LpaMode}
-use Rattle.kinds.specs.declared.lpa_mode.FoundLpaMode.{FoundLpaMode}
 use Rattle.kinds.specs.declared.too_state.TooState.{TooState}
-use Rattle.kinds.specs.declared.too_state.FoundTooState.{FoundTooState}
-use Rattle.kinds.specs.declared.flag.FoundFlag.{FoundFlag}
 use Rattle.kinds.specs.declared.status.Status.{Status}
-use Rattle.kinds.specs.declared.status.FoundStatus.{FoundStatus}
 use Rattle.kinds.specs.declared.answer.Answer.{Answer}
 
 -- the last of the 32-bit numbers, where what is counted ends
 abbrev pub last_number : ℕ
 last_number = 4_294_967_295
+
+abbrev pub unknown_number : UnknownNumber
+unknown_number = record {}
 
 abbrev pub mode_number : Mode → ℕ
 mode_number Mode.Boot = 0
@@ -33,8 +31,8 @@ mode_number Mode.Too = 6
 abbrev pub modes : List Mode
 modes = Mode.Boot ∷ Mode.Terminal ∷ Mode.Quiescent ∷ Mode.Hold ∷ Mode.Calibration ∷ Mode.Physics ∷ Mode.Too ∷ []
 
-abbrev pub mode_of : ℕ → FoundMode
-mode_of n = numbered mode_number FoundMode.Found FoundMode.Unknown modes n
+abbrev pub mode_of : ℕ → Result Mode UnknownNumber
+mode_of n = numbered mode_number Ok (Err unknown_number) modes n
 
 abbrev pub mode_is : Mode → Mode → Bool
 mode_is a b = eqb (mode_number a) (mode_number b)
@@ -47,8 +45,8 @@ task_number Task.Stopping = 2
 abbrev pub tasks : List Task
 tasks = Task.Idle ∷ Task.Running ∷ Task.Stopping ∷ []
 
-abbrev pub task_of : ℕ → FoundTask
-task_of n = numbered task_number FoundTask.Found FoundTask.Unknown tasks n
+abbrev pub task_of : ℕ → Result Task UnknownNumber
+task_of n = numbered task_number Ok (Err unknown_number) tasks n
 
 abbrev pub task_is : Task → Task → Bool
 task_is a b = eqb (task_number a) (task_number b)
@@ -60,8 +58,8 @@ lpa_mode_number LpaMode.Too = 1
 abbrev pub lpa_modes : List LpaMode
 lpa_modes = LpaMode.Normal ∷ LpaMode.Too ∷ []
 
-abbrev pub lpa_mode_of : ℕ → FoundLpaMode
-lpa_mode_of n = numbered lpa_mode_number FoundLpaMode.Found FoundLpaMode.Unknown lpa_modes n
+abbrev pub lpa_mode_of : ℕ → Result LpaMode UnknownNumber
+lpa_mode_of n = numbered lpa_mode_number Ok (Err unknown_number) lpa_modes n
 
 abbrev pub lpa_mode_is : LpaMode → LpaMode → Bool
 lpa_mode_is a b = eqb (lpa_mode_number a) (lpa_mode_number b)
@@ -74,8 +72,8 @@ too_state_number TooState.Started = 2
 abbrev pub too_states : List TooState
 too_states = TooState.None ∷ TooState.Waiting ∷ TooState.Started ∷ []
 
-abbrev pub too_state_of : ℕ → FoundTooState
-too_state_of n = numbered too_state_number FoundTooState.Found FoundTooState.Unknown too_states n
+abbrev pub too_state_of : ℕ → Result TooState UnknownNumber
+too_state_of n = numbered too_state_number Ok (Err unknown_number) too_states n
 
 abbrev pub too_state_is : TooState → TooState → Bool
 too_state_is a b = eqb (too_state_number a) (too_state_number b)
@@ -88,8 +86,8 @@ flag_number true = 1
 abbrev pub flags : List Bool
 flags = false ∷ true ∷ []
 
-abbrev pub flag_of : ℕ → FoundFlag
-flag_of n = numbered flag_number FoundFlag.Found FoundFlag.Unknown flags n
+abbrev pub flag_of : ℕ → Result Bool UnknownNumber
+flag_of n = numbered flag_number Ok (Err unknown_number) flags n
 
 abbrev pub status_number : Status → ℕ
 status_number Status.Success = 0
@@ -110,8 +108,8 @@ statuses =
     Status.Success ∷ Status.PktSent ∷ Status.Fwd ∷ Status.NotRun ∷ Status.BadMode ∷ Status.TooAct
     ∷ Status.BadParam ∷ Status.Saa ∷ Status.OthRun ∷ Status.OthStop ∷ Status.OthIdle ∷ Status.Stale ∷ []
 
-abbrev pub status_of : ℕ → FoundStatus
-status_of n = numbered status_number FoundStatus.Found FoundStatus.Unknown statuses n
+abbrev pub status_of : ℕ → Result Status UnknownNumber
+status_of n = numbered status_number Ok (Err unknown_number) statuses n
 
 abbrev pub status_is : Status → Status → Bool
 status_is a b = eqb (status_number a) (status_number b)

@@ -4,7 +4,9 @@ ghost use Rattle.kinds.specs.Kinds.{answer_number};
 
 use crate::Status;
 
-#[derive(Clone, Copy)]
+// The paper's list of answers, each with its number, and no Result: `answer_number` goes through it case by case, and EMPTY and FULL are
+// answers as the statuses are.
+#[derive(Clone, Copy, PartialEq, Eq)]
 pub enum Answer {
     // What was asked is in the log, with this status: done, or refused by the rules. A flush answers Success.
     Taken(Status),
@@ -25,12 +27,14 @@ impl Answer {
     pub const BADBUF: u16 = 15;
 
     pub const EMPTY: u16 = 16;
+}
 
-    pub fn number(self) -> u16
-        ensures { result ≡ answer_number self }
-    {
-        match self {
-            Answer::Taken(status) => status.number(),
+impl From<Answer> for u16 {
+    ghost from_gives = { λ answer number. number ≡ answer_number answer };
+
+    fn from(answer: Answer) -> u16 {
+        match answer {
+            Answer::Taken(status) => u16::from(status),
             Answer::Full => Answer::FULL,
             Answer::BadState => Answer::BADSTATE,
             Answer::BadEvent => Answer::BADEVENT,

@@ -10,11 +10,15 @@ mod task;
 mod too_state;
 
 pub use answer::Answer;
-pub use lpa_mode::{FoundLpaMode, LpaMode};
-pub use mode::{FoundMode, Mode};
-pub use status::{FoundStatus, Status};
-pub use task::{FoundTask, Task};
-pub use too_state::{FoundTooState, TooState};
+pub use lpa_mode::LpaMode;
+pub use mode::Mode;
+pub use status::Status;
+pub use task::Task;
+pub use too_state::TooState;
 
 // The last of the 32-bit numbers, where what is counted ends.
 pub const LAST_NUMBER: u32 = 4_294_967_295;
+
+// What was read as a kind or a flag has a number that none of them has.
+#[derive(Clone, Copy, PartialEq, Eq)]
+pub struct UnknownNumber;

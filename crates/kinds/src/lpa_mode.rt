@@ -1,46 +1,42 @@
 // How LPA runs, for the ordinary observation or for the target of opportunity, and the numbers (State).
 ghost use Rattle.std.specs.Prelude.{◌≡◌};
-ghost use Rattle.kinds.specs.Kinds.{lpa_mode_number, lpa_mode_of, lpa_mode_is};
+ghost use Rattle.kinds.specs.Kinds.{lpa_mode_number, lpa_mode_of};
 
-#[derive(Clone, Copy)]
+use crate::UnknownNumber;
+
+#[derive(Clone, Copy, PartialEq, Eq)]
 pub enum LpaMode {
     Normal,
     Too,
-}
-
-#[derive(Clone, Copy)]
-pub enum FoundLpaMode {
-    Found(LpaMode),
-    Unknown,
 }
 
 impl LpaMode {
     pub const NORMAL: u16 = 0;
 
     pub const TOO: u16 = 1;
+}
 
-    pub fn number(self) -> u16
-        ensures { result ≡ lpa_mode_number self }
-    {
-        match self {
+impl From<LpaMode> for u16 {
+    ghost from_gives = { λ mode number. number ≡ lpa_mode_number mode };
+
+    fn from(mode: LpaMode) -> u16 {
+        match mode {
             LpaMode::Normal => LpaMode::NORMAL,
             LpaMode::Too => LpaMode::TOO,
         }
     }
+}
 
-    pub fn of(number: u16) -> FoundLpaMode
-        ensures { result ≡ lpa_mode_of number }
-    {
+impl TryFrom<u16> for LpaMode {
+    type Error = UnknownNumber;
+
+    ghost try_from_gives = { λ number found. found ≡ lpa_mode_of number };
+
+    fn try_from(number: u16) -> Result<LpaMode, UnknownNumber> {
         match number {
-            LpaMode::NORMAL => FoundLpaMode::Found(LpaMode::Normal),
-            LpaMode::TOO => FoundLpaMode::Found(LpaMode::Too),
-            _ => FoundLpaMode::Unknown,
+            LpaMode::NORMAL => Ok(LpaMode::Normal),
+            LpaMode::TOO => Ok(LpaMode::Too),
+            _ => Err(UnknownNumber),
         }
-    }
-
-    pub fn is(self, other: LpaMode) -> bool
-        ensures { result ≡ lpa_mode_is self other }
-    {
-        self.number() == other.number()
     }
 }

@@ -1,8 +1,10 @@
 // The modes of the instrument and their numbers (State).
 ghost use Rattle.std.specs.Prelude.{◌≡◌};
-ghost use Rattle.kinds.specs.Kinds.{mode_number, mode_of, mode_is};
+ghost use Rattle.kinds.specs.Kinds.{mode_number, mode_of};
 
-#[derive(Clone, Copy)]
+use crate::UnknownNumber;
+
+#[derive(Clone, Copy, PartialEq, Eq)]
 pub enum Mode {
     Boot,
     Terminal,
@@ -11,12 +13,6 @@ pub enum Mode {
     Calibration,
     Physics,
     Too,
-}
-
-#[derive(Clone, Copy)]
-pub enum FoundMode {
-    Found(Mode),
-    Unknown,
 }
 
 impl Mode {
@@ -33,11 +29,13 @@ impl Mode {
     pub const PHYSICS: u16 = 5;
 
     pub const TOO: u16 = 6;
+}
 
-    pub fn number(self) -> u16
-        ensures { result ≡ mode_number self }
-    {
-        match self {
+impl From<Mode> for u16 {
+    ghost from_gives = { λ mode number. number ≡ mode_number mode };
+
+    fn from(mode: Mode) -> u16 {
+        match mode {
             Mode::Boot => Mode::BOOT,
             Mode::Terminal => Mode::TERMINAL,
             Mode::Quiescent => Mode::QUIESCENT,
@@ -47,25 +45,23 @@ impl Mode {
             Mode::Too => Mode::TOO,
         }
     }
+}
 
-    pub fn of(number: u16) -> FoundMode
-        ensures { result ≡ mode_of number }
-    {
+impl TryFrom<u16> for Mode {
+    type Error = UnknownNumber;
+
+    ghost try_from_gives = { λ number found. found ≡ mode_of number };
+
+    fn try_from(number: u16) -> Result<Mode, UnknownNumber> {
         match number {
-            Mode::BOOT => FoundMode::Found(Mode::Boot),
-            Mode::TERMINAL => FoundMode::Found(Mode::Terminal),
-            Mode::QUIESCENT => FoundMode::Found(Mode::Quiescent),
-            Mode::HOLD => FoundMode::Found(Mode::Hold),
-            Mode::CALIBRATION => FoundMode::Found(Mode::Calibration),
-            Mode::PHYSICS => FoundMode::Found(Mode::Physics),
-            Mode::TOO => FoundMode::Found(Mode::Too),
-            _ => FoundMode::Unknown,
+            Mode::BOOT => Ok(Mode::Boot),
+            Mode::TERMINAL => Ok(Mode::Terminal),
+            Mode::QUIESCENT => Ok(Mode::Quiescent),
+            Mode::HOLD => Ok(Mode::Hold),
+            Mode::CALIBRATION => Ok(Mode::Calibration),
+            Mode::PHYSICS => Ok(Mode::Physics),
+            Mode::TOO => Ok(Mode::Too),
+            _ => Err(UnknownNumber),
         }
-    }
-
-    pub fn is(self, other: Mode) -> bool
-        ensures { result ≡ mode_is self other }
-    {
-        self.number() == other.number()
     }
 }

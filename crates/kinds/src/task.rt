@@ -1,18 +1,14 @@
 // Where a task, LCI or LPA, stands, and the numbers (State).
 ghost use Rattle.std.specs.Prelude.{◌≡◌};
-ghost use Rattle.kinds.specs.Kinds.{task_number, task_of, task_is};
+ghost use Rattle.kinds.specs.Kinds.{task_number, task_of};
 
-#[derive(Clone, Copy)]
+use crate::UnknownNumber;
+
+#[derive(Clone, Copy, PartialEq, Eq)]
 pub enum Task {
     Idle,
     Running,
     Stopping,
-}
-
-#[derive(Clone, Copy)]
-pub enum FoundTask {
-    Found(Task),
-    Unknown,
 }
 
 impl Task {
@@ -21,31 +17,31 @@ impl Task {
     pub const RUNNING: u16 = 1;
 
     pub const STOPPING: u16 = 2;
+}
 
-    pub fn number(self) -> u16
-        ensures { result ≡ task_number self }
-    {
-        match self {
+impl From<Task> for u16 {
+    ghost from_gives = { λ task number. number ≡ task_number task };
+
+    fn from(task: Task) -> u16 {
+        match task {
             Task::Idle => Task::IDLE,
             Task::Running => Task::RUNNING,
             Task::Stopping => Task::STOPPING,
         }
     }
+}
 
-    pub fn of(number: u16) -> FoundTask
-        ensures { result ≡ task_of number }
-    {
+impl TryFrom<u16> for Task {
+    type Error = UnknownNumber;
+
+    ghost try_from_gives = { λ number found. found ≡ task_of number };
+
+    fn try_from(number: u16) -> Result<Task, UnknownNumber> {
         match number {
-            Task::IDLE => FoundTask::Found(Task::Idle),
-            Task::RUNNING => FoundTask::Found(Task::Running),
-            Task::STOPPING => FoundTask::Found(Task::Stopping),
-            _ => FoundTask::Unknown,
+            Task::IDLE => Ok(Task::Idle),
+            Task::RUNNING => Ok(Task::Running),
+            Task::STOPPING => Ok(Task::Stopping),
+            _ => Err(UnknownNumber),
         }
-    }
-
-    pub fn is(self, other: Task) -> bool
-        ensures { result ≡ task_is self other }
-    {
-        self.number() == other.number()
     }
 }

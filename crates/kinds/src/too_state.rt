@@ -1,18 +1,14 @@
 // How far the target of opportunity is, and the numbers (State).
 ghost use Rattle.std.specs.Prelude.{◌≡◌};
-ghost use Rattle.kinds.specs.Kinds.{too_state_number, too_state_of, too_state_is};
+ghost use Rattle.kinds.specs.Kinds.{too_state_number, too_state_of};
 
-#[derive(Clone, Copy)]
+use crate::UnknownNumber;
+
+#[derive(Clone, Copy, PartialEq, Eq)]
 pub enum TooState {
     None,
     Waiting,
     Started,
-}
-
-#[derive(Clone, Copy)]
-pub enum FoundTooState {
-    Found(TooState),
-    Unknown,
 }
 
 impl TooState {
@@ -21,31 +17,31 @@ impl TooState {
     pub const WAITING: u16 = 1;
 
     pub const STARTED: u16 = 2;
+}
 
-    pub fn number(self) -> u16
-        ensures { result ≡ too_state_number self }
-    {
-        match self {
+impl From<TooState> for u16 {
+    ghost from_gives = { λ too number. number ≡ too_state_number too };
+
+    fn from(too: TooState) -> u16 {
+        match too {
             TooState::None => TooState::NONE,
             TooState::Waiting => TooState::WAITING,
             TooState::Started => TooState::STARTED,
         }
     }
+}
 
-    pub fn of(number: u16) -> FoundTooState
-        ensures { result ≡ too_state_of number }
-    {
+impl TryFrom<u16> for TooState {
+    type Error = UnknownNumber;
+
+    ghost try_from_gives = { λ number found. found ≡ too_state_of number };
+
+    fn try_from(number: u16) -> Result<TooState, UnknownNumber> {
         match number {
-            TooState::NONE => FoundTooState::Found(TooState::None),
-            TooState::WAITING => FoundTooState::Found(TooState::Waiting),
-            TooState::STARTED => FoundTooState::Found(TooState::Started),
-            _ => FoundTooState::Unknown,
+            TooState::NONE => Ok(TooState::None),
+            TooState::WAITING => Ok(TooState::Waiting),
+            TooState::STARTED => Ok(TooState::Started),
+            _ => Err(UnknownNumber),
         }
-    }
-
-    pub fn is(self, other: TooState) -> bool
-        ensures { result ≡ too_state_is self other }
-    {
-        self.number() == other.number()
     }
 }

@@ -1,9 +1,13 @@
 -- Laws of numbers in bytes: their lengths; a number of four bytes is read back where it was written, and the bytes of the number that
 -- is read are those that stand there (of two bytes see proofs/WrittenLaws); a read sees its own bytes and no others. Assumes nothing.
-use Rattle.std.specs.Prelude.{ℕ, ◌+◌, ◌*◌, ◌/◌, ◌%◌, ◌^◌, ◌<◌, ◌≤◌, List, [], ◌∷◌, ◌++◌, ◌≡◌, refl, length, get_or, drop}
-use Rattle.std.proofs.Common.{append_assoc, ap₂, ◌∙◌, add-zero, add_assoc, mod-eq_of_lt, arith, get_or-drop}
+use Rattle.std.specs.Prelude.{ℕ, ◌+◌, ◌*◌, ◌/◌, ◌%◌, ◌^◌, ◌<◌, ◌≤◌, List, [], ◌∷◌, ◌++◌, ◌≡◌, refl, length, get_or, take, drop}
+use Rattle.std.specs.Int.{w16, w32, from_be_bytes}
+use Rattle.std.proofs.Common.{append_assoc, ap₂, sym, ◌∙◌, add-zero, add_assoc, mod-eq_of_lt, arith, get_or-drop, get_or-take}
 use Rattle.std.proofs.Math.ListN.{get_or-append}
-use Rattle.std.proofs.Math.Seq.{drop-append_seam}
+use Rattle.std.proofs.Math.Seq.{drop-append_seam, take_all}
+use borrow.Rule.Slice.PartMut.{put_mid}
+use Rattle.std.proofs.lemmas.Slice.{put_mid-paste}
+use Rattle.std.proofs.lemmas.List.Edits.{sets, sets-eq}
 use Rattle.layout.specs.Bytes.{AreBytes, join2, join4, u16_at, u32_at, two, four}
 
 -- Lengths --------------------------------------------------------------------------------------------------------------------
@@ -15,6 +19,39 @@ two-length n = refl
 pub four-length : (n : ℕ) → length (four n) ≡ 4
 unfolding four
 four-length n = refl
+
+-- Std's numbers of bytes -----------------------------------------------------------------------------------------------------
+
+-- what std makes of the bytes that stand at a place is the number that is read there
+pub u16_read : (s b : List ℕ) (at n : ℕ) → b ≡ take 2 (drop at s) → n ≡ from_be_bytes w16 b → n ≡ u16_at s at
+unfolding u16_at
+u16_read s b at n e f =
+    f
+    ∙ rw (e, get_or-take 2 (drop at s) 0 0 (omega arith), get_or-take 2 (drop at s) 1 0 (omega arith), get_or-drop at s 0 0, get_or-drop at s 1 0, add-zero at) refl
+
+pub u32_read : (s b : List ℕ) (at n : ℕ) → b ≡ take 4 (drop at s) → n ≡ from_be_bytes w32 b → n ≡ u32_at s at
+unfolding u32_at
+u32_read s b at n e f =
+    f
+    ∙ rw (
+      e,
+      get_or-take 4 (drop at s) 0 0 (omega arith),
+      get_or-take 4 (drop at s) 1 0 (omega arith),
+      get_or-take 4 (drop at s) 2 0 (omega arith),
+      get_or-take 4 (drop at s) 3 0 (omega arith),
+      get_or-drop at s 0 0,
+      get_or-drop at s 1 0,
+      get_or-drop at s 2 0,
+      get_or-drop at s 3 0,
+      add-zero at,
+    )
+    (omega arith)
+
+pub join2_std : (a b : ℕ) → from_be_bytes w16 (a ∷ b ∷ []) ≡ join2 a b
+join2_std a b = refl
+
+pub join4_std : (a b c d : ℕ) → from_be_bytes w32 (a ∷ b ∷ c ∷ d ∷ []) ≡ join4 a b c d
+join4_std a b c d = omega arith
 
 -- Numbers and their bytes ----------------------------------------------------------------------------------------------------
 
@@ -134,3 +171,11 @@ module _ (s : List ℕ) (i : ℕ) (bytes : AreBytes s) where
   pub u32_fits : u32_at s i < 2 ^ 32
   unfolding u32_at
   u32_fits = omega (arith, bytes i, bytes (i + 1), bytes (i + 2), bytes (i + 3))
+
+-- Bytes written over a part -------------------------------------------------------------------------------------------------
+
+-- bytes that are written over a part of their length are stored from its place on
+pub part_stored : (l part vs : List ℕ) (at k : ℕ) → part ≡ vs → k ≡ length vs → at + k ≤ length l → put_mid at k l part ≡ sets l at vs
+part_stored l part vs at k e long room =
+    put_mid-paste at k l part vs k e refl long
+    ∙ rw (take_all k vs (omega (arith, long)), long) (sym (sets-eq vs l at (omega (arith, long))))

@@ -5,6 +5,5 @@ mod bytes;
 mod event;
 mod record;
 
-pub use bytes::{join2, join4};
 pub use event::{EVENT, event_bytes, read_event};
-pub use record::{RECORD, read_record, record_bytes, status_bytes};
+pub use record::{RECORD, read_record, record_bytes};

@@ -1,3 +1,2 @@
 pub mod StepLaws
-pub mod Outcomes
 pub mod Turns

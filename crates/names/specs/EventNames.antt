@@ -1,6 +1,6 @@
 -- Events: their names, by their codes, and how many numbers go with each.
 -- Assumes nothing.
-use Rattle.std.specs.Prelude.{ℕ, ◌+◌, List, [], ◌∷◌, get_or, if◌then◌else◌}
+use Rattle.std.specs.Prelude.{ℕ, zero, suc, ◌+◌, List, [], ◌∷◌, get_or, Option, Some, None, if◌then◌else◌}
 use Rattle.kinds.specs.Choice.{select}
 use Rattle.events.specs.Event.{POWERON, POWEROFF, LPASTART, TOOSTART, TOOEXPIRED, CALSTATUS, LPASTATUS}
 use Rattle.names.specs.Text.{bytes, same_word}
@@ -55,3 +55,13 @@ numbers_rows =
 -- how many numbers go with a code
 unfoldable pub event_numbers : ℕ → ℕ
 event_numbers n = select n numbers_rows 0
+
+-- a name, or none where it has no letter
+abbrev pub some_name : List ℕ → Option (List ℕ)
+some_name [] = None
+some_name (b ∷ bs) = Some (b ∷ bs)
+
+-- a code, or none where it is 0
+abbrev pub some_code : ℕ → Option ℕ
+some_code zero = None
+some_code (suc n) = Some (suc n)

@@ -1,20 +1,28 @@
 -- Events, the laws of their names: each name is one word, and is read back as its code; a word that is no name has no code.
 -- Assumes nothing.
-use Rattle.std.specs.Prelude.{ℕ, ◌+◌, ◌<◌, ◌≤◌, Bool, true, false, List, [], ◌∷◌, ◌≡◌, refl, ltb, length, get_or, drop, if◌then◌else◌}
-use Rattle.std.proofs.Common.{◌∙◌, sym, ap, add-one, drop_of_length-le, drop-cons}
+use Rattle.std.specs.Prelude.{ℕ, zero, suc, Some, None, ◌+◌, ◌<◌, ◌≤◌, Bool, true, false, ◌&&◌, List, [], ◌∷◌, ◌≡◌, refl, ltb, length, drop, if◌then◌else◌}
+use Rattle.std.proofs.Common.{◌∙◌, sym, ap, add-one, drop_of_length-le, drop-cons, arith}
+use Rattle.std.proofs.Math.Dec.{leb, eqb-suc-zero}
+use Rattle.std.proofs.lemmas.Bool.{leb-true}
+use Rattle.kinds.specs.ChoiceLaws.{and_left, and_right}
 use Rattle.events.specs.Event.{parts_of_event}
 use Rattle.events.specs.declared.Event.{Event}
-use Rattle.names.specs.Text.{padded, leading, first_word, same_word}
-use Rattle.names.specs.EventNames.{event_names, event_name, code_from, event_code, event_numbers}
+use Rattle.names.specs.Text.{first_word, same_word}
+use Rattle.names.specs.EventNames.{event_names, event_name, code_from, event_code, event_numbers, some_code}
 use Rattle.names.specs.TableLaws.{same_bytes, same_bytes_lem, every_at}
 
 one_word : List ℕ → Bool
-one_word name = same_bytes (first_word (padded name)) name
+one_word name = same_bytes (first_word name) name && leb (length name) 12
 
--- a name is one word, and fits its room
-pub event_word : (n : ℕ) → first_word (padded (event_name n)) ≡ event_name n
-unfolding event_name one_word same_bytes first_word leading
-event_word n = same_bytes_lem (first_word (padded (get_or event_names n []))) (get_or event_names n []) (every_at one_word event_names n [] refl refl)
+-- a name is one word, of at most twelve letters
+pub event_word : (n : ℕ) → (first_word (event_name n) ≡ event_name n) × (length (event_name n) ≤ 12)
+unfolding event_name one_word same_bytes first_word
+event_word n =
+    let passed : one_word (event_name n) ≡ true = every_at one_word event_names n [] refl refl in
+    let name : List ℕ = event_name n in (
+      same_bytes_lem (first_word name) name (and_left (same_bytes (first_word name) name) (leb (length name) 12) passed),
+      leb-true (length name) 12 (and_right (same_bytes (first_word name) name) (leb (length name) 12) passed),
+    )
 
 -- The search for a name's code -----------------------------------------------------------------------------------------------
 
@@ -52,6 +60,23 @@ module _ (w : List ℕ) (n r : ℕ) where
 pub code_start : (w : List ℕ) → code_from w 0 (drop 0 event_names) ≡ event_code w
 unfolding event_code
 code_start w = refl
+
+more_letters : (x : ℕ) (xs : List ℕ) → same_word (x ∷ xs) [] ≡ false
+unfolding same_word
+more_letters x xs = rw (eqb-suc-zero (length xs)) refl
+
+-- the search may begin at 1: at 0, where no name stands, no word is found
+pub code_first : (w : List ℕ) → code_from w 1 (drop 1 event_names) ≡ event_code w
+unfolding event_code code_from same_word
+code_first [] = refl
+code_first (x ∷ xs) = sym (further (x ∷ xs) [] 0 (drop 1 event_names) (more_letters x xs))
+
+pub some_found : (n r : ℕ) → 1 ≤ n → n ≡ r → Some n ≡ some_code r
+some_found zero r above e = absurd (omega (arith, above))
+some_found (suc n) r above e = rw (← e) refl
+
+pub some_none : (r : ℕ) → 0 ≡ r → None ≡ some_code r
+some_none r e = rw (← e) refl
 
 -- What is written is read back -----------------------------------------------------------------------------------------------
 

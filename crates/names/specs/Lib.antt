@@ -6,3 +6,4 @@ pub mod Line
 pub mod TableLaws
 pub mod NamesLaws
 pub mod EventNamesLaws
+pub mod PaddedLaws

@@ -1,7 +1,9 @@
 -- The words of a text. A word is what stands between separators: spaces, tabs, commas, and the return that some systems put at the
 -- end of a line. A name is compared in any case. Nothing here is of the paper.
 -- Assumes nothing.
-use Rattle.std.specs.Prelude.{ℕ, ◌+◌, ◌-◌, Bool, true, false, not, ◌||◌, List, [], ◌∷◌, ◌++◌, eqb, ltb, take, drop, replicate, if◌then◌else◌}
+use Rattle.std.specs.Prelude.{ℕ, Bool, not, ◌||◌, ◌&&◌, ◌==◌, List, [], ◌∷◌, eqb, length, take, drop, take_while}
+use Rattle.std.specs.List.{list_all, zip}
+use Rattle.std.specs.Char.{to_ascii_uppercase}
 use Prim.Native.Char.{code}
 use Prim.Native.String.{String}
 use Prim.Native.String.{[] as empty, ◌∷◌ as ◌before◌}
@@ -11,42 +13,29 @@ abbrev pub bytes : String → List ℕ
 bytes empty = []
 bytes (c before cs) = code c ∷ bytes cs
 
--- the room of a name
-abbrev pub WORD : ℕ
-WORD = 12
-
--- a name's letters, filled up with spaces
-abbrev pub padded : List ℕ → List ℕ
-padded name = take WORD (name ++ replicate WORD (code " "))
-
 abbrev pub is_separator : ℕ → Bool
 is_separator b = eqb b (code " ") || eqb b (code "\t") || eqb b (code "\r") || eqb b (code ",")
 
--- whether a byte ends a run of separators, or of bytes that are none
-abbrev pub ends : ℕ → Bool → Bool
-ends b separators = if separators then not (is_separator b) else is_separator b
+-- how long the word at the start of a text is, and how many separators a text begins with
+abbrev pub word_length : List ℕ → ℕ
+word_length t = length (take_while (λ b. not (is_separator b)) t)
 
--- how many bytes at the start of a text are separators, or are none
-unfoldable pub leading : Bool → List ℕ → ℕ
-leading separators [] = 0
-leading separators (b ∷ bs) = if ends b separators then 0 else leading separators bs + 1
+abbrev pub gap_length : List ℕ → ℕ
+gap_length t = length (take_while is_separator t)
 
 unfoldable pub first_word : List ℕ → List ℕ
-first_word t = take (leading false t) t
+first_word t = take (word_length t) t
 
 unfoldable pub after_separators : List ℕ → List ℕ
-after_separators t = drop (leading true t) t
+after_separators t = drop (gap_length t) t
 
 -- what stands after the first word and the separators that end it
 unfoldable pub after_word : List ℕ → List ℕ
-after_word t = after_separators (drop (leading false t) t)
+after_word t = after_separators (drop (word_length t) t)
 
-abbrev pub upper : ℕ → ℕ
-upper b = if ltb b (code "a") then b else if ltb (code "z") b then b else b - 32
+-- whether a word is a name, in any case: each of its letters, and no more
+abbrev pub same_letter : ℕ × ℕ → Bool
+same_letter pair = to_ascii_uppercase pair.0 == pair.1
 
--- whether a word is a name, in any case
 unfoldable pub same_word : List ℕ → List ℕ → Bool
-same_word [] [] = true
-same_word [] (y ∷ ys) = false
-same_word (x ∷ xs) [] = false
-same_word (x ∷ xs) (y ∷ ys) = if eqb (upper x) y then same_word xs ys else false
+same_word w name = length w == length name && list_all same_letter (zip w name)

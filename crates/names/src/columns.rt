@@ -2,7 +2,6 @@
 ghost use Rattle.std.specs.Prelude.{◌≡◌};
 ghost use Rattle.names.specs.Columns.{desk_columns, listing_columns};
 
-use kinds::flag;
 use state::State;
 
 pub const DESK_HEAD: [u8; 41] = *b"mode lci lpa lpm saa lciw lpaw too arm ev";
@@ -12,20 +11,15 @@ pub const LISTING_HEAD: [u8; 24] = *b"mode lci lpa saa too arm";
 pub fn desk_columns(state: State) -> [u32; 10]
     ensures { result ≡ desk_columns state }
 {
-    let mode = state.mode;
-    let lci = state.lci;
-    let lpa = state.lpa;
-    let lpa_mode = state.lpa_mode;
-    let too = state.too;
     [
-        mode.number() as u32,
-        lci.number() as u32,
-        lpa.number() as u32,
-        lpa_mode.number() as u32,
-        flag::number(state.saa),
-        flag::number(state.lci_awaited),
-        flag::number(state.lpa_awaited),
-        too.number() as u32,
+        u32::from(u16::from(state.mode)),
+        u32::from(u16::from(state.lci)),
+        u32::from(u16::from(state.lpa)),
+        u32::from(u16::from(state.lpa_mode)),
+        u32::from(state.saa),
+        u32::from(state.lci_awaited),
+        u32::from(state.lpa_awaited),
+        u32::from(u16::from(state.too)),
         state.armed,
         state.count,
     ]
@@ -34,16 +28,12 @@ pub fn desk_columns(state: State) -> [u32; 10]
 pub fn listing_columns(state: State) -> [u32; 6]
     ensures { result ≡ listing_columns state }
 {
-    let mode = state.mode;
-    let lci = state.lci;
-    let lpa = state.lpa;
-    let too = state.too;
     [
-        mode.number() as u32,
-        lci.number() as u32,
-        lpa.number() as u32,
-        flag::number(state.saa),
-        too.number() as u32,
+        u32::from(u16::from(state.mode)),
+        u32::from(u16::from(state.lci)),
+        u32::from(u16::from(state.lpa)),
+        u32::from(state.saa),
+        u32::from(u16::from(state.too)),
         state.armed,
     ]
 }

@@ -1,69 +1,69 @@
-// The names of the kinds: modes, task states, LPA modes, TOO states and statuses (State, Answers of the manager). A table goes by the
-// kind's numbers.
+// The names of the kinds: modes, task states, LPA modes, TOO states and statuses (State, Answers of the manager). They are functions and
+// no `Display`, whose `fmt` ensures nothing: that a name is the paper's is promised here. They are public, one a kind, and docs/PROMISES.md
+// names each; a trait for them would be no plainer.
 ghost use Rattle.std.specs.Prelude.{◌≡◌};
-ghost use Rattle.names.specs.Text.{padded};
 ghost use Rattle.names.specs.Names.{mode_name, task_name, lpa_mode_name, too_state_name, status_name};
 
-use crate::text::WORD;
 use kinds::{LpaMode, Mode, Status, Task, TooState};
 
-const MODES: [[u8; WORD]; 7] = [
-    *b"BOOT        ",
-    *b"TERMINAL    ",
-    *b"QUIESCENT   ",
-    *b"HOLD        ",
-    *b"CALIBRATION ",
-    *b"PHYSICS     ",
-    *b"TOO         ",
-];
-
-const TASKS: [[u8; WORD]; 3] = [*b"IDLE        ", *b"RUNNING     ", *b"STOPPING    "];
-
-const LPA_MODES: [[u8; WORD]; 2] = [*b"NORMAL      ", *b"TOO         "];
-
-const TOO_STATES: [[u8; WORD]; 3] = [*b"NONE        ", *b"WAITING     ", *b"STARTED     "];
-
-const STATUSES: [[u8; WORD]; 12] = [
-    *b"SUCCESS     ",
-    *b"PKTSENT     ",
-    *b"FWD         ",
-    *b"NOTRUN      ",
-    *b"BADMODE     ",
-    *b"TOOACT      ",
-    *b"BADPARAM    ",
-    *b"SAA         ",
-    *b"OTHRUN      ",
-    *b"OTHSTOP     ",
-    *b"OTHIDLE     ",
-    *b"STALE       ",
-];
-
-pub fn mode(mode: Mode) -> [u8; WORD]
-    ensures { result ≡ padded (mode_name mode) }
+pub fn mode(mode: Mode) -> &'static [u8]
+    ensures { result.now ≡ mode_name mode }
 {
-    MODES[mode.number() as usize]
+    match mode {
+        Mode::Boot => b"BOOT",
+        Mode::Terminal => b"TERMINAL",
+        Mode::Quiescent => b"QUIESCENT",
+        Mode::Hold => b"HOLD",
+        Mode::Calibration => b"CALIBRATION",
+        Mode::Physics => b"PHYSICS",
+        Mode::Too => b"TOO",
+    }
 }
 
-pub fn task(task: Task) -> [u8; WORD]
-    ensures { result ≡ padded (task_name task) }
+pub fn task(task: Task) -> &'static [u8]
+    ensures { result.now ≡ task_name task }
 {
-    TASKS[task.number() as usize]
+    match task {
+        Task::Idle => b"IDLE",
+        Task::Running => b"RUNNING",
+        Task::Stopping => b"STOPPING",
+    }
 }
 
-pub fn lpa_mode(mode: LpaMode) -> [u8; WORD]
-    ensures { result ≡ padded (lpa_mode_name mode) }
+pub fn lpa_mode(mode: LpaMode) -> &'static [u8]
+    ensures { result.now ≡ lpa_mode_name mode }
 {
-    LPA_MODES[mode.number() as usize]
+    match mode {
+        LpaMode::Normal => b"NORMAL",
+        LpaMode::Too => b"TOO",
+    }
 }
 
-pub fn too_state(too: TooState) -> [u8; WORD]
-    ensures { result ≡ padded (too_state_name too) }
+pub fn too_state(too: TooState) -> &'static [u8]
+    ensures { result.now ≡ too_state_name too }
 {
-    TOO_STATES[too.number() as usize]
+    match too {
+        TooState::None => b"NONE",
+        TooState::Waiting => b"WAITING",
+        TooState::Started => b"STARTED",
+    }
 }
 
-pub fn status(status: Status) -> [u8; WORD]
-    ensures { result ≡ padded (status_name status) }
+pub fn status(status: Status) -> &'static [u8]
+    ensures { result.now ≡ status_name status }
 {
-    STATUSES[status.number() as usize]
+    match status {
+        Status::Success => b"SUCCESS",
+        Status::PktSent => b"PKTSENT",
+        Status::Fwd => b"FWD",
+        Status::NotRun => b"NOTRUN",
+        Status::BadMode => b"BADMODE",
+        Status::TooAct => b"TOOACT",
+        Status::BadParam => b"BADPARAM",
+        Status::Saa => b"SAA",
+        Status::OthRun => b"OTHRUN",
+        Status::OthStop => b"OTHSTOP",
+        Status::OthIdle => b"OTHIDLE",
+        Status::Stale => b"STALE",
+    }
 }

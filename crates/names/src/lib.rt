@@ -1,5 +1,5 @@
 // The words of the paper: the names of modes, states, statuses and events, the columns of a state, and a line of text read as an event.
-// A name is handed back filled up with spaces: `first_word` is the name alone. Records are in `record_words`, which needs these.
+// Records are in `record_words`, which needs these.
 #![tactic(auto)]
 
 mod columns;
@@ -9,7 +9,7 @@ mod line;
 mod text;
 
 pub use columns::{DESK_HEAD, LISTING_HEAD, desk_columns, listing_columns};
-pub use event_names::{UNKNOWN, event, event_code, event_numbers};
+pub use event_names::{event, event_code, event_numbers};
 pub use kind_names::{lpa_mode, mode, status, task, too_state};
-pub use line::{Content, Expected, Line, read_line};
-pub use text::{WORD, after_separators, after_word, first_word};
+pub use line::{Expected, read_line};
+pub use text::{after_separators, after_word, first_word};

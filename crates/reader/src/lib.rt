@@ -5,5 +5,5 @@ mod content;
 mod reader;
 mod reply;
 
-pub use reader::{Reader, behind, fresh, read};
+pub use reader::Reader;
 pub use reply::{Read, Reply};

@@ -4,8 +4,8 @@ ghost use Rattle.reader.specs.Reader.{reply_number};
 
 use crate::Reader;
 
-// The answers, in the order of their numbers.
-#[derive(Clone, Copy)]
+// The answers, in the order of their numbers. `reply_number` goes through them all, so those that refuse are no type of their own.
+#[derive(Clone, Copy, PartialEq, Eq)]
 pub enum Reply {
     Applied,
     Already,
@@ -16,6 +16,7 @@ pub enum Reply {
     RState,
 }
 
+// No Result: a GAP is no error, and the reader comes with each answer.
 #[derive(Clone, Copy)]
 pub struct Read {
     pub reader: Reader,
@@ -36,11 +37,13 @@ impl Reply {
     pub const NONSENSE: u16 = 5;
 
     pub const RSTATE: u16 = 6;
+}
 
-    pub fn number(self) -> u16
-        ensures { result ≡ reply_number self }
-    {
-        match self {
+impl From<Reply> for u16 {
+    ghost from_gives = { λ reply n. n ≡ reply_number reply };
+
+    fn from(reply: Reply) -> u16 {
+        match reply {
             Reply::Applied => Reply::APPLIED,
             Reply::Already => Reply::ALREADY,
             Reply::Gap => Reply::GAP,

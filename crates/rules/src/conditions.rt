@@ -1,4 +1,5 @@
-// What the rules ask of a state, and the sections of records that several of them share (Mode rules).
+// What the rules ask of a state, and the sections of records that several of them share (Mode rules). A condition is a function a field:
+// the rules' definitions name each. A section takes the state and the draft, since a rule asks the state before the event, not the draft's.
 ghost use Rattle.std.specs.Prelude.{◌≡◌};
 ghost use Rattle.rules.specs.Rule.{in_mode, lci_is, lpa_is, too_is, stop_calibration, stop_physics, end_too};
 ghost use Rattle.draft.specs.Draft.{emits};
@@ -11,29 +12,25 @@ use state::State;
 pub fn in_mode(s: State, other: Mode) -> bool
     ensures { result ≡ in_mode s other }
 {
-    let mode = s.mode;
-    mode.is(other)
+    s.mode == other
 }
 
 pub fn lci_is(s: State, other: Task) -> bool
     ensures { result ≡ lci_is s other }
 {
-    let lci = s.lci;
-    lci.is(other)
+    s.lci == other
 }
 
 pub fn lpa_is(s: State, other: Task) -> bool
     ensures { result ≡ lpa_is s other }
 {
-    let lpa = s.lpa;
-    lpa.is(other)
+    s.lpa == other
 }
 
 pub fn too_is(s: State, other: TooState) -> bool
     ensures { result ≡ too_is s other }
 {
-    let too = s.too;
-    too.is(other)
+    s.too == other
 }
 
 pub fn stop_calibration(s: State, draft: Draft) -> Draft

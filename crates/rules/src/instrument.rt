@@ -1,4 +1,5 @@
-// The rules of the instrument as a whole: start, power, hold, SAA, load shed (Mode rules).
+// The rules of the instrument as a whole: start, power, hold, SAA, load shed (Mode rules). A rule is a function, as the book has it, also
+// where two differ in one record: each has its definition.
 ghost use Rattle.std.specs.Prelude.{◌≡◌};
 ghost use Rattle.rules.specs.Rule.{decide};
 ghost use Rattle.rules.specs.Rules.{

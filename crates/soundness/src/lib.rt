@@ -36,34 +36,27 @@ fn numbers_sound(s: State) -> bool
 fn calibration_sound(s: State) -> bool
     ensures { result ≡ calibration_sound s }
 {
-    let mode = s.mode;
-    let lci = s.lci;
-    let calibrating = mode.is(Mode::Calibration);
-    (!lci.is(Task::Running) | calibrating) & (!calibrating | !lci.is(Task::Idle))
+    let calibrating = s.mode == Mode::Calibration;
+    ((s.lci != Task::Running) | calibrating) & (!calibrating | (s.lci != Task::Idle))
 }
 
 #[tactic(auto, unfolding(crate::specs::Sound::physics_sound))]
 fn physics_sound(s: State) -> bool
     ensures { result ≡ physics_sound s }
 {
-    let mode = s.mode;
-    let lpa = s.lpa;
-    let lpa_mode = s.lpa_mode;
-    let physics = mode.is(Mode::Physics);
-    let normal = physics & lpa_mode.is(LpaMode::Normal);
-    let too = mode.is(Mode::Too) & lpa_mode.is(LpaMode::Too);
-    (!lpa.is(Task::Running) | (normal | too) & !s.saa) & (!physics | !lpa.is(Task::Idle))
+    let physics = s.mode == Mode::Physics;
+    let normal = physics & (s.lpa_mode == LpaMode::Normal);
+    let too = (s.mode == Mode::Too) & (s.lpa_mode == LpaMode::Too);
+    ((s.lpa != Task::Running) | (normal | too) & !s.saa) & (!physics | (s.lpa != Task::Idle))
 }
 
 #[tactic(auto, unfolding(crate::specs::Sound::too_sound))]
 fn too_sound(s: State) -> bool
     ensures { result ≡ too_sound s }
 {
-    let mode = s.mode;
-    let too = s.too;
-    let none = too.is(TooState::None);
+    let none = s.too == TooState::None;
     let on = s.armed != 0;
-    if mode.is(Mode::Too) {
+    if s.mode == Mode::Too {
         !none & on
     } else {
         none & !on
@@ -74,22 +67,15 @@ fn too_sound(s: State) -> bool
 fn boot_sound(s: State) -> bool
     ensures { result ≡ boot_sound s }
 {
-    let mode = s.mode;
-    let lci = s.lci;
-    let lpa = s.lpa;
-    let lpa_mode = s.lpa_mode;
-    let too = s.too;
-    let booting = mode.is(Mode::Boot);
-    let idle = lci.is(Task::Idle) & lpa.is(Task::Idle) & lpa_mode.is(LpaMode::Normal);
+    let booting = s.mode == Mode::Boot;
+    let idle = (s.lci == Task::Idle) & (s.lpa == Task::Idle) & (s.lpa_mode == LpaMode::Normal);
     let quiet = idle & !s.saa & !s.lci_awaited & !s.lpa_awaited;
-    !booting | quiet & too.is(TooState::None) & !(s.armed != 0)
+    !booting | quiet & (s.too == TooState::None) & !(s.armed != 0)
 }
 
 #[tactic(auto, unfolding(crate::specs::Sound::tasks_sound))]
 fn tasks_sound(s: State) -> bool
     ensures { result ≡ tasks_sound s }
 {
-    let lci = s.lci;
-    let lpa = s.lpa;
-    lci.is(Task::Idle) | lpa.is(Task::Idle)
+    (s.lci == Task::Idle) | (s.lpa == Task::Idle)
 }

@@ -22,7 +22,7 @@ ghost use Rattle.state.specs.State.{
 pub use effect::one_more;
 use kinds::{LpaMode, Mode, Task, TooState};
 
-#[derive(Clone, Copy)]
+#[derive(Clone, Copy, PartialEq, Eq)]
 pub struct State {
     pub mode: Mode,
     pub lci: Task,
@@ -62,31 +62,34 @@ impl State {
         }
     }
 
-    // One field changed. A number or a flag is stored where it stands, which takes fewer instructions; a field that is an enum cannot be
-    // stored to, and the state is written anew.
+    // One field changed, where it stands: a function a field, since each has a definition that the effects of the records name.
 
-    pub fn with_mode(self, mode: Mode) -> Self
+    pub fn with_mode(mut self, mode: Mode) -> Self
         ensures { result ≡ with_mode self mode }
     {
-        State { mode, ..self }
+        self.mode = mode;
+        self
     }
 
-    pub fn with_lci(self, lci: Task) -> Self
+    pub fn with_lci(mut self, lci: Task) -> Self
         ensures { result ≡ with_lci self lci }
     {
-        State { lci, ..self }
+        self.lci = lci;
+        self
     }
 
-    pub fn with_lpa(self, lpa: Task) -> Self
+    pub fn with_lpa(mut self, lpa: Task) -> Self
         ensures { result ≡ with_lpa self lpa }
     {
-        State { lpa, ..self }
+        self.lpa = lpa;
+        self
     }
 
-    pub fn with_lpa_mode(self, lpa_mode: LpaMode) -> Self
+    pub fn with_lpa_mode(mut self, lpa_mode: LpaMode) -> Self
         ensures { result ≡ with_lpa_mode self lpa_mode }
     {
-        State { lpa_mode, ..self }
+        self.lpa_mode = lpa_mode;
+        self
     }
 
     pub fn with_saa(mut self, saa: bool) -> Self
@@ -110,10 +113,11 @@ impl State {
         self
     }
 
-    pub fn with_too(self, too: TooState) -> Self
+    pub fn with_too(mut self, too: TooState) -> Self
         ensures { result ≡ with_too self too }
     {
-        State { too, ..self }
+        self.too = too;
+        self
     }
 
     pub fn with_armed(mut self, armed: u32) -> Self

@@ -1,2 +1,2 @@
+pub mod BufferLaws
 pub mod NumeralLaws
-pub mod PutLaws

@@ -1,4 +1,2 @@
 pub mod Input
 pub mod Numeral
-pub mod Put
-pub mod Turns

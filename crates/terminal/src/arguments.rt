@@ -1,6 +1,6 @@
 // The words that a program was called with.
 use crate::failure::say;
-use crate::numeral::{Parsed, parse};
+use crate::numeral::{NoNumeral, parse};
 use std::env::FillError;
 use std::rt::Env;
 
@@ -8,17 +8,24 @@ use std::rt::Env;
 const LONGEST: usize = 4096;
 
 // The one word after the program's name, as a number: no number where there is none, or more than one.
-pub fn only_number(rt: HostRuntime) -> Parsed {
-    if !given(rt, 1) {
-        return Parsed::NoNumber;
-    }
-    if given(rt, 2) {
-        return Parsed::NoNumber;
+pub fn only_number(rt: HostRuntime) -> Result<u32, NoNumeral> {
+    if !given(rt, 1) || given(rt, 2) {
+        return Err(NoNumeral::NoNumber);
     }
     let mut word = [0u8; LONGEST];
-    match rt.arg(1, &mut word) {
-        Ok(n) => parse(&word[..n]),
-        Err(_) => Parsed::NoNumber,
+    let n = rt.arg(1, &mut word)?;
+    parse(&word[..n])
+}
+
+// A word that is longer, or that there is not.
+impl From<FillError> for NoNumeral {
+    ghost use Rattle.std.specs.Prelude.{◌≡◌};
+    ghost use Rattle.terminal.specs.declared.numeral.NoNumeral.{NoNumeral};
+
+    ghost from_gives = { λ _ e. e ≡ NoNumeral.NoNumber };
+
+    fn from(_: FillError) -> Self {
+        Self::NoNumber
     }
 }
 
@@ -31,8 +38,7 @@ pub fn none_given(rt: HostRuntime) -> bool {
 fn given(rt: HostRuntime, i: usize) -> bool {
     let mut nothing = [0u8; 0];
     match rt.arg(i, &mut nothing) {
-        Ok(_) => true,
-        Err(FillError::TooLong) => true,
+        Ok(_) | Err(FillError::TooLong) => true,
         Err(FillError::NotPresent) => false,
     }
 }

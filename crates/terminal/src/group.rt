@@ -5,12 +5,5 @@ ghost use Rattle.std.specs.Prelude.{◌≡◌, ◌+◌, min};
 pub fn group_end(length: usize, from: usize, size: usize) -> usize
     ensures { result ≡ min (from + size) length }
 {
-    if length <= from {
-        return length;
-    }
-    if length - from < size {
-        length
-    } else {
-        from + size
-    }
+    from.saturating_add(size).min(length)
 }

@@ -4,12 +4,14 @@ ghost use Rattle.io.specs.Counts.{IsPrefixLen};
 ghost use Rattle.terminal.specs.Input.{whole_groups, reads_on};
 
 use crate::failure::tell;
-use crate::put::BUFFER;
-use crate::retry::passes;
+use crate::group::group_end;
+use crate::retry::{TURNS, passes};
 use std::io::Read;
 
 // Reads once, and then what the last group still lacks (a size of 0 counts as 1), until what came is whole groups, the buffer is full,
-// or the input ends or fails; answers how many bytes came. 0, or a count that is not whole groups, says that the input has ended. A failure is told.
+// or the input ends or fails; answers how many bytes came. 0, or a count that is not whole groups, says that the input has ended. A failure
+// is told. 0 says both, here and in `read_some`: the end and a failure both end the input, and the failure is told.
+// The count is no index that runs through the buffer: it goes on by what each read brought.
 pub fn fill(rt: HostRuntime, buf: &mut [u8], size: usize) -> usize
     ensures { IsPrefixLen result buf.new }
 {
@@ -33,29 +35,21 @@ fn wanted(done: usize, size: usize, long: usize) -> usize
     requires { done < long }
     ensures { (done < result) × (result ≤ long) }
 {
-    if done == 0 {
+    if done == 0 || size == 0 {
         return long;
     }
-    if size == 0 {
-        return long;
-    }
-    let lacking = size - done % size;
-    if long - done < lacking {
-        long
-    } else {
-        done + lacking
-    }
+    group_end(long, done, size - done % size)
 }
 
-// Whether to read on after so many bytes, with so much of the output's buffer taken.
+// Whether to read on after so many bytes, by whether a write of the output has failed.
 #[tactic(auto, unfolding(crate::specs::Input::reads_on))]
-pub fn reads_on(count: usize, size: usize, at: usize) -> bool
-    ensures { result ≡ reads_on count size at }
+pub fn reads_on(count: usize, size: usize, failed: bool) -> bool
+    ensures { result ≡ reads_on count size failed }
 {
     if count == 0 {
         return false;
     }
-    if at > BUFFER {
+    if failed {
         return false;
     }
     whole(count, size)
@@ -71,13 +65,11 @@ fn whole(count: usize, size: usize) -> bool
     count % size == 0
 }
 
-// One read, made again where its failure passes; 0 at the end of the input. The turns are counted down from a number that no run uses
-// up, since a proved loop has to end.
+// One read, made again where its failure passes; 0 at the end of the input.
 fn read_some(rt: HostRuntime, buf: &mut [u8]) -> usize
     ensures { result ≤ length buf.old }
 {
-    let mut turns = u64::MAX;
-    while turns > 0 {
+    for _ in 0..TURNS {
         match rt.stdin().read(buf) {
             Ok(got) => return got,
             Err(error) => {
@@ -85,9 +77,8 @@ fn read_some(rt: HostRuntime, buf: &mut [u8]) -> usize
                     tell(rt, b"standard input", error);
                     return 0;
                 }
-            }
+            },
         }
-        turns -= 1;
     }
     0
 }

@@ -18,45 +18,29 @@ impl Messages {
         Messages { count: 0 }
     }
 
-    // Whether one more is told.
-    pub fn tells_next(self) -> bool
-        ensures { result ≡ ltb self.count 20 }
+    // Counts one more, no further than the largest number, and says whether it is told.
+    pub fn one_more(&mut self) -> bool
+        ensures told { result ≡ ltb self.old.count 20 }
+        ensures counted { self.new.count ≡ min (self.old.count + 1) 18_446_744_073_709_551_615 }
     {
-        self.count < MOST_TOLD
-    }
-
-    // With one more, told or not; no further than the largest number.
-    pub fn with_next(self) -> Messages
-        ensures { result.count ≡ min (self.count + 1) 18_446_744_073_709_551_615 }
-    {
-        if self.count == u64::MAX {
-            return self;
-        }
-        Messages {
-            count: self.count + 1,
-        }
+        let told = self.count < MOST_TOLD;
+        self.count = self.count.saturating_add(1);
+        told
     }
 
     // How many were not told.
     pub fn rest(self) -> u64
         ensures { result ≡ self.count - 20 }
     {
-        if self.count < MOST_TOLD {
-            return 0;
-        }
-        self.count - MOST_TOLD
+        self.count.saturating_sub(MOST_TOLD)
     }
-}
 
-// How many were not told, in one line, where there are any: a text, their number, and a text for one or for several.
-pub fn tell_rest(rt: HostRuntime, messages: Messages, before: &[u8], one: &[u8], several: &[u8]) {
-    let rest = messages.rest();
-    if rest == 0 {
-        return;
-    }
-    if rest == 1 {
-        tell(rt, before, 1, one);
-    } else {
-        tell(rt, before, rest, several);
+    // How many were not told, in one line, where there are any: a text, their number, and a text for one or for several.
+    pub fn tell_rest(self, rt: HostRuntime, before: &[u8], one: &[u8], several: &[u8]) {
+        match self.rest() {
+            0 => {},
+            1 => tell(rt, before, 1, one),
+            rest => tell(rt, before, rest, several),
+        }
     }
 }

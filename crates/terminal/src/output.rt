@@ -1,54 +1,111 @@
-// Bytes written out whole, however slowly they are taken.
-ghost use Rattle.std.specs.Prelude.{◌≤◌, ◌≡◌, length};
+// Text and numbers for a stream, put into a buffer that is written out whenever it is full.
+ghost use Rattle.std.specs.Prelude.{◌≡◌, ◌<◌, ◌≤◌, ◌+◌, [], ◌∷◌, ◌++◌, length, true, false};
 
-use crate::failure::tell;
-use crate::retry::passes;
+use crate::buffer::Buffer;
 use crate::stream::Stream;
-use std::io;
 
-// No failure of the system's: a write took nothing.
-const NO_ERROR: i32 = 0;
+// The buffer's length.
+pub const BUFFER: usize = 65536;
 
-// Writes all of a string, in as many writes as it takes, and answers whether it went. A failure is told.
-pub(crate) fn write_whole(to: Stream, s: &[u8]) -> bool {
-    let mut done: usize = 0;
-    while done < s.len() {
-        let put = write_some(to, &s[done..]);
-        if put == 0 {
-            return false;
-        }
-        done += put;
-    }
-    true
+// What waits to be written. Once a write has failed, which is told, nothing more is put or written.
+#[derive(Drop)]
+pub struct Output {
+    to: Stream,
+    waiting: Buffer<BUFFER>,
+    // It stays, as C's `ferror` has it (D-71).
+    failed: bool,
+    pub ghost within: { length waiting ≤ 65536 },
 }
 
-// One write of something, made again where its failure passes; 0 where it fails. The turns are counted down from a number that no run uses up.
-fn write_some(to: Stream, s: &[u8]) -> usize
-    ensures { result ≤ length s.now }
-{
-    let mut turns = u64::MAX;
-    while turns > 0 {
-        match to.write(s) {
-            // A write that takes nothing is no better the next time.
-            Ok(0) => return broken(to, io::Error::from_raw_os_error(NO_ERROR)),
-            Ok(put) => return put,
-            Err(error) => {
-                if !passes(to.runtime(), error) {
-                    return broken(to, error);
-                }
-            }
+// `stays_failed` stands in six contracts: it is of two values, and an invariant is of one.
+impl Output {
+    pub fn new(to: Stream) -> Self
+        ensures nothing { result.waiting ≡ [] }
+        ensures whole { result.failed ≡ false }
+    {
+        Output {
+            to,
+            waiting: Buffer::new(),
+            failed: false,
         }
-        turns -= 1;
     }
-    0
-}
 
-// A failure of standard output is told. There is nowhere to tell that standard error fails.
-fn broken(to: Stream, error: io::Error) -> usize
-    ensures { result ≡ 0 }
-{
-    if let Stream::Output(rt) = to {
-        tell(rt, b"standard output", error);
+    // Whether a write has failed.
+    pub fn failed(&self) -> bool
+        ensures { result ≡ self.now.failed }
+    {
+        self.failed
     }
-    0
+
+    // One byte more. A buffer that is full is written out first.
+    pub fn byte(&mut self, b: u8)
+        ensures placed { self.old.failed ≡ false → length self.old.waiting < 65536 →
+            (self.new.waiting ≡ self.old.waiting ++ b ∷ []) × (self.new.failed ≡ false) }
+        ensures stays_failed { self.old.failed ≡ true → self.new ≡ self.old }
+    {
+        if !self.failed && !self.waiting.push(b) {
+            self.text_next(&[b]);
+        }
+    }
+
+    // A text more. Where it does not fit, the buffer is written out first; a text longer than the buffer goes straight out.
+    pub fn text(&mut self, s: &[u8])
+        ensures placed { self.old.failed ≡ false → length self.old.waiting + length s.now ≤ 65536 →
+            (self.new.waiting ≡ self.old.waiting ++ s.now) × (self.new.failed ≡ false) }
+        ensures stays_failed { self.old.failed ≡ true → self.new ≡ self.old }
+    {
+        if !self.failed && !self.waiting.add(s) {
+            self.text_next(s);
+        }
+    }
+
+    // A text that does not fit after what is there.
+    fn text_next(&mut self, s: &[u8]) {
+        self.flush();
+        if !self.failed && !self.waiting.add(s) {
+            self.failed = self.to.write_whole(s).is_err();
+        }
+    }
+
+    // A number in decimal. No `write!`, for speed, and since `fmt` promises nothing of `failed`.
+    pub fn number(&mut self, n: u64)
+        ensures stays_failed { self.old.failed ≡ true → self.new ≡ self.old }
+    {
+        if n < 10 {
+            return self.byte(b'0' + n as u8);
+        }
+        let mut digits = [0u8; 20];
+        let k = io::decimal(n, &mut digits);
+        self.text(&digits[..k]);
+    }
+
+    // A number after a blank.
+    pub fn column(&mut self, n: u32)
+        ensures stays_failed { self.old.failed ≡ true → self.new ≡ self.old }
+    {
+        self.byte(b' ');
+        self.number(u64::from(n));
+    }
+
+    // Each of some numbers after a blank.
+    pub fn columns(&mut self, numbers: &[u32])
+        ensures stays_failed { self.old.failed ≡ true → self.new ≡ self.old }
+    {
+        for n in numbers {
+            self.column(*n);
+        }
+    }
+
+    // Writes out what waits; nothing waits then.
+    pub fn flush(&mut self)
+        ensures stays_failed { self.old.failed ≡ true → self.new ≡ self.old }
+        ensures emptied { self.new.failed ≡ false → self.new.waiting ≡ [] }
+        ensures given_up { self.old.failed ≡ false → self.new.waiting ≡ [] }
+    {
+        if self.failed {
+            return;
+        }
+        self.failed = self.to.write_whole(self.waiting.as_slice()).is_err();
+        self.waiting.clear();
+    }
 }

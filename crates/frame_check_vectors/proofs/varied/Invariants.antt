@@ -2,5 +2,5 @@
 use Rattle.std.proofs.Common.{◌<◌}
 use Rattle.frame_check_vectors.proofs.varied.Given as goal
 
-abbrev pub invariant-loop-i : goal.invariant-loop-i
-invariant-loop-i l = l.state < 65537
+abbrev pub invariant-loop-byte : goal.invariant-loop-byte
+invariant-loop-byte l = l.state < 65537

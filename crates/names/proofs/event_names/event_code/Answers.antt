@@ -1,16 +1,14 @@
--- `event_code`: a turn of the loop, and where it ends.
+-- `event_code`: what the search finds.
 use Rattle.std.proofs.Common.{rules}
-use Rattle.names.specs.EventNamesLaws.{code_start, code_found, code_further, code_none}
+use Rattle.std.proofs.lemmas.Iterator.{first_from_Range}
+use Rattle.names.specs.EventNames.{event_name}
+use Rattle.names.proofs.EventNamesSearch.{Is, IsNot, first_is_code}
 use Rattle.names.proofs.event_names.event_code.Goals as goal
 
-pub loop-code-init : goal.loop-code-init
-loop-code-init c = search (rules, code_start)
-
-pub returns-then-is_name : goal.returns-then-is_name
-returns-then-is_name c = search (rules, code_found)
-
-pub loop-code-preserved : goal.loop-code-preserved
-loop-code-preserved c = search (rules, code_further)
-
 pub returns : goal.returns
-returns c = search (rules, code_none)
+unfolding event_name
+returns c =
+    first_is_code c.args.name.now c.find.result
+    (first_from_Range _ _ _ _ (Is c.args.name.now) (IsNot c.args.name.now) c.find.ensures.ran
+    (λ n f called. search rules)
+    (λ n f called. (search rules, search rules)))

@@ -1,5 +1,0 @@
--- `all` ends: its turns run out.
-use Rattle.desk.proofs.all.Given as goal
-
-abbrev pub decreases-loop-turns : goal.decreases-loop-turns
-decreases-loop-turns l = l.turns

@@ -1,0 +1,6 @@
+-- `columns`: an output that has failed stays as it is.
+use Rattle.std.proofs.Common.{◌≡◌, true}
+use Rattle.terminal.proofs.output.Output.columns.Given as goal
+
+abbrev pub invariant-loop-n : goal.invariant-loop-n
+invariant-loop-n l = l.fn.self.failed ≡ true → l.self ≡ l.fn.self
