@@ -19,6 +19,8 @@ pub fn copy(from: &[u8], long: usize, to: &mut [u8], at: usize) -> bool
     if to.len() - long < at {
         return false;
     }
-    to[at..at + long].copy_from_slice(&from[..long]);
+    for i in 0..long {
+        to[at + i] = from[i];
+    }
     true
 }

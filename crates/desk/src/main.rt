@@ -28,13 +28,7 @@ fn hear(rt: HostRuntime, log: u32) {
     let mut desk = Desk {
         reader: Reader::fresh(log),
     };
-    let mut piece = [0u8; PIECE];
-    let mut out = Output::new(Stream::Output(rt));
-    out.text(b"an next heard behind ");
-    out.text(&names::DESK_HEAD);
-    out.byte(b'\n');
-    terminal::each_piece(rt, &mut desk, &mut piece, BLOCK, &mut out);
-    if !out.failed() {
+    if desk.deliver_all(rt) {
         desk.sum_up(rt);
     }
 }
@@ -49,6 +43,17 @@ impl Takes for Desk {
 }
 
 impl Desk {
+    // Whether all lines went out. A function of its own, so that the sentence after it needs no room on the stack beside the buffers here.
+    fn deliver_all(&mut self, rt: HostRuntime) -> bool {
+        let mut piece = [0u8; PIECE];
+        let mut out = Output::new(Stream::Output(rt));
+        out.text(b"an next heard behind ");
+        out.text(&names::DESK_HEAD);
+        out.byte(b'\n');
+        terminal::each_piece(rt, self, &mut piece, BLOCK, &mut out);
+        !out.failed()
+    }
+
     fn deliver(&mut self, string: &[u8], out: &mut Output) {
         let read = self.reader.read(string);
         let reader = read.reader;

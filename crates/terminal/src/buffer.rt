@@ -1,6 +1,6 @@
 // A fixed number of bytes, of which the first are taken. Contracts see the bytes that are taken.
 // No vector: the memory is fixed (no heap).
-ghost use Rattle.std.specs.Prelude.{◌≡◌, ◌≤◌, ◌+◌, List, [], ◌∷◌, ◌++◌, ℕ, length, take, ltb, leb, if◌then◌else◌};
+ghost use Rattle.std.specs.Prelude.{◌≡◌, ◌≤◌, ◌+◌, List, [], ◌∷◌, ◌++◌, ℕ, length, take, ltb, leb, if◌then◌else◌, IsOk};
 
 use std::fmt;
 use std::marker::Model;
@@ -77,10 +77,15 @@ impl<const N: usize> Buffer<N> {
 
 // As much of a text as there is room for.
 impl<const N: usize> fmt::Write for Buffer<N> {
-    fn write_str(&mut self, s: &str) -> fmt::Result {
-        for b in s.as_bytes() {
-            self.push(*b);
-        }
+    ghost write_str_gives = { λ old s new. new ≡ take N (old ++ s) };
+
+    fn write_str(&mut self, s: &str) -> fmt::Result
+        ensures well { IsOk result }
+        ensures ok { IsOk result → self.new ≡ take N (self.old ++ s.now) }
+    {
+        let bytes = s.as_bytes();
+        let room = bytes.len().min(N - self.taken);
+        self.add(&bytes[..room]);
         Ok(())
     }
 }

@@ -1,4 +1,6 @@
 // What failed and why, in a line on standard error.
+ghost use Rattle.std.specs.Prelude.{◌≤◌, length};
+
 use crate::buffer::Buffer;
 use std::fmt::Write;
 use std::io;
@@ -17,7 +19,9 @@ pub(crate) fn tell(rt: HostRuntime, what: &[u8], error: io::Error) {
 }
 
 // The text of an error ends where its number stands, as in `Is a directory (os error 21)`.
-fn before_number(text: &[u8]) -> &[u8] {
+fn before_number(text: &[u8]) -> &[u8]
+    ensures { length result.now ≤ length text.now }
+{
     match text.iter().rposition(|b| *b == b'(') {
         Some(at) => &text[..at.saturating_sub(1)],
         None => text,

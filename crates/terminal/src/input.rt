@@ -5,7 +5,8 @@ ghost use Rattle.terminal.specs.Input.{whole_groups, reads_on};
 
 use crate::failure::tell;
 use crate::group::group_end;
-use crate::retry::{TURNS, passes};
+use crate::retry::passes;
+use crate::turns::TURNS;
 use std::io::Read;
 
 // Reads once, and then what the last group still lacks (a size of 0 counts as 1), until what came is whole groups, the buffer is full,
@@ -65,7 +66,7 @@ fn whole(count: usize, size: usize) -> bool
     count % size == 0
 }
 
-// One read, made again where its failure passes; 0 at the end of the input.
+// One read, made again where its failure passes; 0 at the end of the input. The turns are counted, as a program's loop's are.
 fn read_some(rt: HostRuntime, buf: &mut [u8]) -> usize
     ensures { result ≤ length buf.old }
 {

@@ -14,6 +14,7 @@ mod pieces;
 mod retry;
 mod stream;
 mod told;
+mod turns;
 
 pub use arguments::{none_given, only_number, tell_use};
 pub use buffer::Buffer;
@@ -25,3 +26,4 @@ pub use output::{BUFFER, Output};
 pub use pieces::{Takes, each_piece};
 pub use stream::Stream;
 pub use told::tell;
+pub use turns::{TURNS, turns_left};

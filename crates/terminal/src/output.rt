@@ -17,11 +17,12 @@ pub struct Output {
     pub ghost within: { length waiting ≤ 65536 },
 }
 
-// `stays_failed` stands in six contracts: it is of two values, and an invariant is of one.
+// `stays_failed` and `stream` stand in each contract that changes an output: they are of two values, and an invariant is of one.
 impl Output {
     pub fn new(to: Stream) -> Self
         ensures nothing { result.waiting ≡ [] }
         ensures whole { result.failed ≡ false }
+        ensures stream { result.to ≡ to }
     {
         Output {
             to,
@@ -42,6 +43,7 @@ impl Output {
         ensures placed { self.old.failed ≡ false → length self.old.waiting < 65536 →
             (self.new.waiting ≡ self.old.waiting ++ b ∷ []) × (self.new.failed ≡ false) }
         ensures stays_failed { self.old.failed ≡ true → self.new ≡ self.old }
+        ensures stream { self.new.to ≡ self.old.to }
     {
         if !self.failed && !self.waiting.push(b) {
             self.text_next(&[b]);
@@ -53,6 +55,7 @@ impl Output {
         ensures placed { self.old.failed ≡ false → length self.old.waiting + length s.now ≤ 65536 →
             (self.new.waiting ≡ self.old.waiting ++ s.now) × (self.new.failed ≡ false) }
         ensures stays_failed { self.old.failed ≡ true → self.new ≡ self.old }
+        ensures stream { self.new.to ≡ self.old.to }
     {
         if !self.failed && !self.waiting.add(s) {
             self.text_next(s);
@@ -60,7 +63,10 @@ impl Output {
     }
 
     // A text that does not fit after what is there.
-    fn text_next(&mut self, s: &[u8]) {
+    fn text_next(&mut self, s: &[u8])
+        ensures stays_failed { self.old.failed ≡ true → self.new ≡ self.old }
+        ensures stream { self.new.to ≡ self.old.to }
+    {
         self.flush();
         if !self.failed && !self.waiting.add(s) {
             self.failed = self.to.write_whole(s).is_err();
@@ -70,6 +76,7 @@ impl Output {
     // A number in decimal. No `write!`, for speed, and since `fmt` promises nothing of `failed`.
     pub fn number(&mut self, n: u64)
         ensures stays_failed { self.old.failed ≡ true → self.new ≡ self.old }
+        ensures stream { self.new.to ≡ self.old.to }
     {
         if n < 10 {
             return self.byte(b'0' + n as u8);
@@ -82,6 +89,7 @@ impl Output {
     // A number after a blank.
     pub fn column(&mut self, n: u32)
         ensures stays_failed { self.old.failed ≡ true → self.new ≡ self.old }
+        ensures stream { self.new.to ≡ self.old.to }
     {
         self.byte(b' ');
         self.number(u64::from(n));
@@ -90,6 +98,7 @@ impl Output {
     // Each of some numbers after a blank.
     pub fn columns(&mut self, numbers: &[u32])
         ensures stays_failed { self.old.failed ≡ true → self.new ≡ self.old }
+        ensures stream { self.new.to ≡ self.old.to }
     {
         for n in numbers {
             self.column(*n);
@@ -99,6 +108,7 @@ impl Output {
     // Writes out what waits; nothing waits then.
     pub fn flush(&mut self)
         ensures stays_failed { self.old.failed ≡ true → self.new ≡ self.old }
+        ensures stream { self.new.to ≡ self.old.to }
         ensures emptied { self.new.failed ≡ false → self.new.waiting ≡ [] }
         ensures given_up { self.old.failed ≡ false → self.new.waiting ≡ [] }
     {

@@ -3,7 +3,7 @@ ghost use Rattle.std.specs.Prelude.{◌≡◌, [], false};
 
 use crate::input::{fill, reads_on};
 use crate::output::Output;
-use crate::retry::TURNS;
+use crate::turns::{TURNS, turns_left};
 
 // What a program does with a piece: whole groups, but for what is left at the end of the input.
 pub trait Takes {
@@ -20,12 +20,11 @@ pub fn each_piece<T: Takes>(
 )
     ensures { out.new.failed ≡ false → out.new.waiting ≡ [] }
 {
-    for _ in 0..TURNS {
+    let mut turns = TURNS;
+    while turns > 0 {
         let count = fill(rt, piece, size);
         taker.take(rt, &piece[..count], out);
         out.flush();
-        if !reads_on(count, size, out.failed()) {
-            return;
-        }
+        turns = turns_left(turns, reads_on(count, size, out.failed()));
     }
 }

@@ -3,9 +3,6 @@ use std::io::ErrorKind;
 use std::time::Duration;
 use std::{io, thread};
 
-// A proved loop has to end, and nothing says that failures do, or the input: the turns are counted, up to a number that no run comes to.
-pub(crate) const TURNS: u64 = u64::MAX;
-
 // Whether a call that just failed is to be made again: it was interrupted, or it would have had to wait, and waits a little here.
 pub(crate) fn passes(rt: HostRuntime, error: io::Error) -> bool {
     match error.kind() {

@@ -2,7 +2,8 @@
 ghost use Rattle.std.specs.Prelude.{◌<◌, ◌≤◌, length, IfOk};
 
 use crate::failure::tell;
-use crate::retry::{TURNS, passes};
+use crate::retry::passes;
+use crate::turns::TURNS;
 use std::io;
 
 // Standard output or standard error, with the handle that reaches it.
