@@ -1,10 +1,8 @@
--- Laws of a copy: where there is room it is a paste, and else nothing; what a byte more is, and a part written over.
+-- Laws of a copy: where there is room it is a paste, and else nothing; and what its loop has after a turn more.
 -- Assumes nothing.
-use Rattle.std.specs.Prelude.{ℕ, ◌+◌, ◌<◌, ◌≤◌, Bool, true, false, List, ◌++◌, ◌≡◌, refl, length, take, drop, set, get_or}
-use Rattle.std.proofs.Common.{sym, ap, ◌∙◌, add-one, le_refl}
-use Rattle.std.proofs.Math.Seq.{paste, paste-suc, take-take, length-take-le}
-use Rattle.std.proofs.lemmas.Slice.{put_mid-paste}
-use borrow.Rule.Slice.PartMut.{put_mid}
+use Rattle.std.specs.Prelude.{ℕ, ◌+◌, ◌<◌, ◌≤◌, Bool, true, false, List, ◌≡◌, refl, length, set, get_or}
+use Rattle.std.proofs.Common.{add-one}
+use Rattle.std.proofs.Math.Seq.{paste, paste-suc}
 use borrow.Author.Tests.{le-leb, lt-leb}
 use Rattle.copy.specs.Copy.{has_room, copied}
 
@@ -29,10 +27,3 @@ module _ (from : List ℕ) (long : ℕ) (to : List ℕ) (at : ℕ) where
 pub copied_turn : (to from b : List ℕ) (at i : ℕ) → at + i < length to → i < length from → b ≡ paste to at from i
     → set b (at + i) (get_or from i 0) ≡ paste to at from (i + 1)
 copied_turn to from b at i room more e = rw (e, add-one) (paste-suc to at from i 0 room more)
-
--- the first n bytes of a string, written over a part that has n
-pub part_copied : (to from part : List ℕ) (at k n : ℕ) → n ≡ k → n ≤ length from → part ≡ take n from
-    → put_mid at k to part ≡ paste to at from n
-part_copied to from part at k n whole enough e =
-    put_mid-paste at k to part (take n from) n e whole (sym (length-take-le n from enough))
-    ∙ ap (λ (s : List ℕ). take at to ++ s ++ drop (at + n) to) (take-take n n from (le_refl n))

@@ -19,6 +19,7 @@ pub fn copy(from: &[u8], long: usize, to: &mut [u8], at: usize) -> bool
     if to.len() - long < at {
         return false;
     }
+    // A plain loop, of which the compiler makes one move of memory.
     for i in 0..long {
         to[at + i] = from[i];
     }

@@ -43,7 +43,8 @@ impl Takes for Desk {
 }
 
 impl Desk {
-    // Whether all lines went out. A function of its own, so that the sentence after it needs no room on the stack beside the buffers here.
+    // Whether all lines went out. This and the sentence after it are not inlined, so that they use the same room on the stack.
+    #[inline(never)]
     fn deliver_all(&mut self, rt: HostRuntime) -> bool {
         let mut piece = [0u8; PIECE];
         let mut out = Output::new(Stream::Output(rt));
@@ -65,6 +66,7 @@ impl Desk {
     }
 
     // The sentence at the end, for people.
+    #[inline(never)]
     fn sum_up(&self, rt: HostRuntime) {
         let mut line = Output::new(Stream::Error(rt));
         line.text(b"desk: the instrument is in mode ");
