@@ -27,3 +27,8 @@ module _ (from : List ℕ) (long : ℕ) (to : List ℕ) (at : ℕ) where
 pub copied_turn : (to from b : List ℕ) (at i : ℕ) → at + i < length to → i < length from → b ≡ paste to at from i
     → set b (at + i) (get_or from i 0) ≡ paste to at from (i + 1)
 copied_turn to from b at i room more e = rw (e, add-one) (paste-suc to at from i 0 room more)
+
+-- the same, whatever numbers name the two places
+pub copied_turn_at : (to from b : List ℕ) (at i p q : ℕ) → p ≡ at + i → q ≡ i → at + i < length to → i < length from
+    → b ≡ paste to at from i → set b p (get_or from q 0) ≡ paste to at from (i + 1)
+copied_turn_at to from b at i p q there here room more e = rw (there, here) (copied_turn to from b at i room more e)

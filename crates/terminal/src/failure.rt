@@ -1,5 +1,5 @@
 // What failed and why, in a line on standard error.
-ghost use Rattle.std.specs.Prelude.{◌≤◌, length};
+ghost use Rattle.std.specs.Prelude.{◌≡◌, length, take};
 
 use crate::buffer::Buffer;
 use std::fmt::Write;
@@ -20,7 +20,7 @@ pub(crate) fn tell(rt: HostRuntime, what: &[u8], error: io::Error) {
 
 // The text of an error ends where its number stands, as in `Is a directory (os error 21)`.
 fn before_number(text: &[u8]) -> &[u8]
-    ensures { length result.now ≤ length text.now }
+    ensures { result.now ≡ take (length result.now) text.now }
 {
     match text.iter().rposition(|b| *b == b'(') {
         Some(at) => &text[..at.saturating_sub(1)],

@@ -17,7 +17,7 @@ pub struct Output {
     pub ghost within: { length waiting ≤ 65536 },
 }
 
-// `stays_failed` and `stream` stand in each contract that changes an output: they are of two values, and an invariant is of one.
+// `stays_failed` and `stream` stand in each contract here that changes an output: they are of two values, and an invariant is of one.
 impl Output {
     pub fn new(to: Stream) -> Self
         ensures nothing { result.waiting ≡ [] }

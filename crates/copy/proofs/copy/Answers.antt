@@ -1,7 +1,7 @@
 -- `copy`: each way out is what `has_room` says there, and a turn more is a byte more.
 use Rattle.std.proofs.Common.{◌≡◌, ◌∙◌, ap, arith}
 use Rattle.std.proofs.Math.Seq.{paste}
-use Rattle.copy.specs.CopyLaws.{copied_room, copied_short, copied_narrow, copied_turn}
+use Rattle.copy.specs.CopyLaws.{copied_room, copied_short, copied_narrow, copied_turn_at}
 use Rattle.copy.proofs.copy.Goals as goal
 
 pub returns-then-from-long : goal.returns-then-from-long
@@ -14,7 +14,9 @@ pub returns-then-to-long-2 : goal.returns-then-to-long-2
 returns-then-to-long-2 c = copied_narrow _ _ _ _ (omega arith) (omega arith)
 
 pub loop-i-preserved : goal.loop-i-preserved
-loop-i-preserved c = copied_turn c.args.to.now c.args.from.now c.loop-i.to c.args.at c.loop-i.i (omega arith) (omega arith) c.loop-i.invariant
+loop-i-preserved c =
+    copied_turn_at c.args.to.now c.args.from.now c.loop-i.to c.args.at c.loop-i.i _ _ (omega arith) (omega arith) (omega arith) (omega arith)
+    c.loop-i.invariant
 
 pub returns : goal.returns
 returns c =
