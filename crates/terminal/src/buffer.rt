@@ -84,8 +84,8 @@ impl<const N: usize> fmt::Write for Buffer<N> {
         ensures ok { IsOk result → self.new ≡ take N (self.old ++ s.now) }
     {
         let bytes = s.as_bytes();
-        let room = bytes.len().min(N - self.taken);
-        self.add(&bytes[..room]);
+        let fitting = bytes.len().min(N - self.taken);
+        self.add(&bytes[..fitting]);
         Ok(())
     }
 }

@@ -66,7 +66,7 @@ fn whole(count: usize, size: usize) -> bool
     count % size == 0
 }
 
-// One read, made again where its failure passes; 0 at the end of the input. The turns are counted, as a program's loop's are.
+// One read, made again where its failure passes; 0 at the end of the input. The turns are counted, as in a program's loop.
 fn read_some(rt: HostRuntime, buf: &mut [u8]) -> usize
     ensures { result ≤ length buf.old }
 {
